@@ -7,7 +7,8 @@ use Rattle.tokei_table.specs.Row.{Row}
 use Rattle.tokei_walk.specs.declared.kept_file.KeptFile.{KeptFile}
 use Rattle.tokei_walk.specs.declared.levels.Rules.{Rules}
 use Rattle.tokei_walk.specs.Kept.{kept_in}
-use Rattle.tokei_walk.specs.Noted.{Noted, noted_in}
+use Rattle.tokei_walk.specs.Met.{noted_in}
+use Rattle.tokei_walk.specs.Noted.{Noted}
 use Rattle.tokei_walk.specs.Walks.{excludes_of}
 use Rattle.tokei_files.specs.Files.{Counting}
 

@@ -9,9 +9,10 @@ ghost use Rattle.tokei_files.specs.declared.error.ParseFault.TheVariants.{Refuse
 ghost use Rattle.tokei_stats.specs.Seen.{stats_of};
 ghost use Rattle.tokei_folders.specs.Answers.{Told};
 ghost use Rattle.tokei_walk.specs.Kept.{kept_in};
-ghost use Rattle.tokei_walk.specs.Noted.{NotesSay, noted_in, noted_to_come};
+ghost use Rattle.tokei_walk.specs.Met.{noted_in};
+ghost use Rattle.tokei_walk.specs.Noted.{NotesSay};
 ghost use Rattle.tokei_walk.specs.Notes.{Grows, notes_of, notes_of_excludes};
-ghost use Rattle.tokei_walk.specs.Walks.{to_come, excludes_of, texts_of};
+ghost use Rattle.tokei_walk.specs.Walks.{excludes_of, noted_to_come, texts_of, to_come};
 ghost use Rattle.tokei_statistics.specs.Runs.{AddsFiles, AddsFirst, language_from, languages_of_file};
 ghost use Rattle.tokei_folders.specs.AsTheyWere.{AsTheyWere, SameTree, FaultsStay};
 

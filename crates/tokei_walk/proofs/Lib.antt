@@ -6,11 +6,12 @@ pub mod Inside
 pub mod KeptPlaces
 pub mod Lasting
 pub mod ListedFiles
+pub mod Meeting
+pub mod MetRoots
+pub mod MetSteps
 pub mod NearestFirst
 pub mod NeverRefused
 pub mod NoPatterns
-pub mod NoteRoots
-pub mod NoteSteps
 pub mod Noting
 pub mod Over
 pub mod Ranking

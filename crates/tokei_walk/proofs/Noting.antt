@@ -16,7 +16,7 @@ use Rattle.tokei_walk.specs.declared.kept_file.NoteKind.TheVariants.{BadLine}
 use Rattle.tokei_walk.specs.declared.levels.Rules.{Rules}
 use Rattle.tokei_walk.specs.declared.rules_files.Sought.{Sought}
 use Rattle.tokei_walk.specs.Levels.{has_git}
-use Rattle.tokei_walk.specs.Noted.{Noted, NotesSay, noted_above, noted_at, noted_file, noted_level, noted_of, noted_over, said_by, said_in}
+use Rattle.tokei_walk.specs.Noted.{Noted, NotesCome, NotesSay, noted_above, noted_at, noted_file, noted_level, noted_of, noted_over, said_by, said_in}
 use Rattle.tokei_walk.specs.Notes.{Grows, bad_line_notes, ignore_notes, listing_notes, lost_notes, unnamed_notes}
 use Rattle.tokei_walk.specs.Sought.{listed, lists}
 use Rattle.std.specs.List.{flat_map}
@@ -35,6 +35,10 @@ says_on a b c xs ys e f = f ∙ ap (λ (q : List Noted). q ++ ys) e ∙ append_a
 
 pub says_what : (a b : List Note) (xs ys : List Noted) → xs ≡ ys → NotesSay a b xs → NotesSay a b ys
 says_what a b xs ys e f = f ∙ ap (λ (q : List Noted). said_in a ++ q) e
+
+-- all that comes is said
+pub come_all : (a b : List Note) (xs ys : List Noted) → ys ≡ [] → NotesCome a xs b ys → NotesSay a b xs
+come_all a b xs ys none h = sym (h ∙ ap (λ (q : List Noted). said_in b ++ q) none ∙ append-nil (said_in b))
 
 -- what notes say that were put behind
 pub grown_says : (a b : List Note) (grown : Grows a b) (xs : List Noted) → NotesSay a b xs → said_in grown.more ≡ xs

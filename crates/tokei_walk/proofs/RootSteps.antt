@@ -1,31 +1,21 @@
--- What the roots of a walk give.
-use Rattle.std.proofs.Common.{◌≡◌, ℕ, List, [], ◌∷◌, ◌++◌, reverse, map, Bool, true, false, cond, Option, Some, None, Ok, refl, sym, ap, ap₂, ◌∙◌, append_assoc}
-use Rattle.std.proofs.lemmas.List.{reverse-append, reverse-reverse}
-use Rattle.std.specs.List.{flat_map}
+-- What stands at the roots of a walk, and above them.
+use Rattle.std.proofs.Common.{◌≡◌, ℕ, List, [], ◌∷◌, ◌++◌, reverse, map, Bool, true, false, cond, Option, Some, None, refl, sym, ap, ◌∙◌, append_assoc}
+use Rattle.std.proofs.lemmas.List.{reverse-append}
 use Rattle.tokei_folders.specs.declared.nodes.Node.{Node}
 use Rattle.tokei_folders.specs.declared.nodes.Node.TheVariants.{File as file, Folder as folder}
 use Rattle.tokei_folders.specs.declared.fs.Above.{Above}
-use Rattle.tokei_folders.specs.declared.fs.Entry.{Entry}
 use Rattle.tokei_folders.specs.declared.fs.Kind.{Kind}
-use Rattle.tokei_folders.specs.declared.fs.Kind.TheVariants.{File, Folder, Other}
-use Rattle.tokei_walk.specs.declared.kept_file.KeptFile.{KeptFile}
+use Rattle.tokei_folders.specs.declared.fs.Kind.TheVariants.{Other}
+use Rattle.tokei_folders.specs.Answers.{above_view, node_kind}
+use Rattle.tokei_folders.specs.Tree.{IsSound, Names, Tree, folders_above, is_sound, names_of, node_at}
+use Rattle.tokei_ignore.specs.Fits.{is_empty}
 use Rattle.tokei_walk.specs.declared.levels.Context.{Context}
 use Rattle.tokei_walk.specs.declared.levels.Level.{Level}
 use Rattle.tokei_walk.specs.declared.levels.Rules.{Rules}
-use Rattle.tokei_ignore.specs.declared.patterns.Pattern.{Pattern}
-use Rattle.tokei_walk.specs.declared.rules_files.Sought.{Sought}
-use Rattle.tokei_walk.specs.declared.stack.Stack.{Stack}
-use Rattle.tokei_walk.specs.declared.walking.Walk.{Walk}
-use Rattle.tokei_folders.specs.Answers.{above_view, list_answer, node_kind}
-use Rattle.tokei_walk.specs.Descent.{kept, descend, with_level, of_root, of_node, of_top, of_stack, root_context, levels_above}
-use Rattle.tokei_ignore.specs.Fits.{is_empty}
+use Rattle.tokei_walk.specs.Descent.{levels_above, root_context, with_level}
 use Rattle.tokei_walk.specs.Levels.{level_at}
-use Rattle.tokei_walk.specs.Sought.{listed, level_of}
-use Rattle.tokei_walk.specs.Stacks.{Stays, NoneStays, ExploreTells}
-use Rattle.tokei_folders.specs.Tree.{Names, Tree, IsSound, is_sound, node_at, names_of, folders_above}
-use Rattle.tokei_walk.specs.Walks.{of_roots, of_all, to_come, descended, Advances, RootIs, names_over, levels_over}
-use Rattle.tokei_walk.proofs.ListedFiles.{level_listed}
-use Rattle.tokei_walk.proofs.StackSteps.{same_stack, empty_gives, top_ends, same_context, root_entered}
+use Rattle.tokei_walk.specs.Walks.{RootIs, levels_over, names_over}
+use Rattle.tokei_walk.proofs.StackSteps.{same_context}
 
 pub more : {X : Type 0} (xs ys zs rest whole : List X) (x : X) → ys ≡ xs ++ x ∷ [] → zs ≡ x ∷ rest → xs ++ zs ≡ whole → ys ++ rest ≡ whole
 more xs ys zs rest whole x is first so_far = ap (λ q. q ++ rest) is ∙ append_assoc xs (x ∷ []) rest ∙ ap (λ q. xs ++ q) (sym first) ∙ so_far
@@ -69,69 +59,13 @@ pub level_added : (c d : Context) (ls : List Level) (l : Level) → c ≡ d → 
 level_added c d ls l e is =
     same_context (is ∙ ap (λ (x : Context). x.levels ++ l ∷ []) e) (ap (λ (x : Context). x.names) e) (ap (λ (x : Context). x.shown) e)
 
--- a root that is listed and walked
-pub root_walked : (xs : List Pattern) (r : Rules) (t : Tree) (s : Stack) (c : Context) (q : Sought) (root at : List ℕ) (es : List Entry)
-    → list_answer t (names_of root) ≡ Ok es → q ≡ listed r es → at ≡ root
-    → c ≡ with_level (root_context t r (names_of at)) (level_of t q (names_of at))
-    → s.context ≡ c → s.place ≡ root → reverse s.left ≡ es → s.holders ≡ []
-    → descend xs r t 257 (root_context t r (names_of root)) root ≡ of_stack xs r t s
-root_walked xs r t s c q root at es entries sought here told context place left below =
-    let level = ap₂ (λ (x : Sought) (p : List ℕ). level_of t x (names_of p)) sought here ∙ level_listed t r (names_of root) es entries in
-    let whole = context ∙ told ∙ ap₂ with_level (ap (λ p. root_context t r (names_of p)) here) level in
-    root_entered xs r t s (root_context t r (names_of root)) (root_context t r (names_of root)) (level_at t r (names_of root)) root (entries ∙ ap Ok (sym left)) refl refl whole place below
-
-pub root_blank : (xs : List Pattern) (r : Rules) (t : Tree) (root : List ℕ) → is_empty root ≡ true → of_root xs r t root ≡ []
-unfolding of_root
-root_blank xs r t root e = ap (λ b. cond b [] (of_node xs r t root (node_at t (names_of root)))) e
-
-named : (xs : List Pattern) (r : Rules) (t : Tree) (root : List ℕ) → is_empty root ≡ false → of_root xs r t root ≡ of_node xs r t root (node_at t (names_of root))
-unfolding of_root
-named xs r t root e = ap (λ b. cond b [] (of_node xs r t root (node_at t (names_of root)))) e
-
-node_missing : (xs : List Pattern) (r : Rules) (t : Tree) (root : List ℕ) (o : Option Node) → node_kind o ≡ None → of_node xs r t root o ≡ []
-node_missing xs r t root None e = refl
-node_missing xs r t root (Some (file a b c)) e = absurd (cc)
-node_missing xs r t root (Some (folder a)) e = absurd (cc)
-
-node_file : (xs : List Pattern) (r : Rules) (t : Tree) (root : List ℕ) (o : Option Node) → node_kind o ≡ Some File → of_node xs r t root o ≡ kept root
-node_file xs r t root None e = absurd (cc)
-node_file xs r t root (Some (file a b c)) e = refl
-node_file xs r t root (Some (folder a)) e = absurd (cc)
-
-node_folder : (xs : List Pattern) (r : Rules) (t : Tree) (root : List ℕ) (o : Option Node) → node_kind o ≡ Some Folder → of_node xs r t root o ≡ of_node xs r t root (Some (folder false))
-node_folder xs r t root None e = absurd (cc)
-node_folder xs r t root (Some (file a b c)) e = absurd (cc)
-node_folder xs r t root (Some (folder a)) e = refl
-
 node_other : (o : Option Node) → node_kind o ≡ Some Other → ⊥
 node_other None e = cc
 node_other (Some (file a b c)) e = cc
 node_other (Some (folder a)) e = cc
 
-pub root_missing : (xs : List Pattern) (r : Rules) (t : Tree) (root : List ℕ) → is_empty root ≡ false → None ≡ node_kind (node_at t (names_of root)) → of_root xs r t root ≡ []
-root_missing xs r t root e k = named xs r t root e ∙ node_missing xs r t root (node_at t (names_of root)) (sym k)
-
-pub root_file : (xs : List Pattern) (r : Rules) (t : Tree) (root : List ℕ) → is_empty root ≡ false → Some File ≡ node_kind (node_at t (names_of root)) → of_root xs r t root ≡ kept root
-root_file xs r t root e k = named xs r t root e ∙ node_file xs r t root (node_at t (names_of root)) (sym k)
-
-pub root_folder : (xs : List Pattern) (r : Rules) (t : Tree) (root : List ℕ) → is_empty root ≡ false
-    → Some Folder ≡ node_kind (node_at t (names_of root))
-    → of_root xs r t root ≡ of_node xs r t root (Some (folder false))
-root_folder xs r t root e k = named xs r t root e ∙ node_folder xs r t root (node_at t (names_of root)) (sym k)
-
 pub root_other : (t : Tree) (root : List ℕ) → Some Other ≡ node_kind (node_at t (names_of root)) → ⊥
 root_other t root k = node_other (node_at t (names_of root)) (sym k)
-
-missing_by : (xs : List Pattern) (r : Rules) (t : Tree) (root : List ℕ) (b : Bool)
-    → is_empty root ≡ b
-    → (is_empty root ≡ false → None ≡ node_kind (node_at t (names_of root)))
-    → of_root xs r t root ≡ []
-missing_by xs r t root true e h = root_blank xs r t root e
-missing_by xs r t root false e h = root_missing xs r t root e (h e)
-
--- a root where nothing stands gives nothing
-pub known_missing : (xs : List Pattern) (r : Rules) (t : Tree) (root : List ℕ) (k : Option Kind) → RootIs t root k → k ≡ None → of_root xs r t root ≡ []
-known_missing xs r t root k is e = missing_by xs r t root (is_empty root) refl (λ h. sym e ∙ is.1 h)
 
 named_by : (root : List ℕ) (b : Bool) (k : Option Kind) (x : Kind) → is_empty root ≡ b → (is_empty root ≡ true → k ≡ None) → k ≡ Some x → is_empty root ≡ false
 named_by root true k x e h is = let n : None ≡ Some x = sym (h e) ∙ is in absurd (cc)
@@ -144,60 +78,6 @@ known_named t root k x is e = named_by root (is_empty root) k x refl is.0 e
 -- and that stands there in the tree
 pub known_kind : (t : Tree) (root : List ℕ) (k : Option Kind) (x : Kind) → RootIs t root k → k ≡ Some x → Some x ≡ node_kind (node_at t (names_of root))
 known_kind t root k x is e = sym e ∙ is.1 (known_named t root k x is e)
-
--- a walked folder that gives nothing more
-pub explored_none : (xs : List Pattern) (r : Rules) (t : Tree) (s v : Stack) → Stays s v → v.left ≡ [] → of_top xs r t s ≡ [] → of_stack xs r t s ≡ of_stack xs r t v
-explored_none xs r t s v stays left none = same_stack xs r t s v stays (none ∙ sym (top_ends xs r t v (ap reverse left)))
-
-pub no_roots : (xs : List Pattern) (r : Rules) (t : Tree) (roots : List (List ℕ)) → roots ≡ [] → of_roots xs r t roots ≡ []
-unfolding of_roots
-no_roots xs r t roots e = ap (λ q. flat_map (of_root xs r t) (reverse q)) e
-
-pub all_ended : (xs : List Pattern) (r : Rules) (t : Tree) (s : Stack) (roots : List (List ℕ)) → s.left ≡ [] → s.holders ≡ [] → roots ≡ [] → of_all xs r t s roots ≡ []
-all_ended xs r t s roots left below none = ap₂ (λ (a b : List KeptFile). a ++ b) (empty_gives xs r t s left below) (no_roots xs r t roots none)
-
--- where the walked folder gives nothing more, the same is to come
-pub all_explored : (xs : List Pattern) (r : Rules) (t : Tree) (s v : Stack) (roots : List (List ℕ)) → NoneStays s v None → ExploreTells xs r t s v None → of_all xs r t s roots ≡ of_all xs r t v roots
-all_explored xs r t s v roots stays top = ap (λ (q : List KeptFile). q ++ of_roots xs r t roots) (explored_none xs r t s v stays.0 stays.1 top)
-
-roots_pop : (xs : List Pattern) (r : Rules) (t : Tree) (roots front : List (List ℕ)) (root : List ℕ) → roots ≡ front ++ root ∷ [] → of_roots xs r t roots ≡ of_root xs r t root ++ of_roots xs r t front
-unfolding of_roots
-roots_pop xs r t roots front root is = ap (λ q. flat_map (of_root xs r t) q) (ap reverse is ∙ reverse-append front (root ∷ []))
-
--- the next root, where nothing of the one before is left
-pub root_begins : (xs : List Pattern) (r : Rules) (t : Tree) (s : Stack)
-    (roots front : List (List ℕ)) (root : List ℕ)
-    → s.left ≡ [] → s.holders ≡ [] → roots ≡ front ++ root ∷ []
-    → of_all xs r t s roots ≡ of_root xs r t root ++ of_roots xs r t front
-root_begins xs r t s roots front root left below is = ap₂ (λ (a b : List KeptFile). a ++ b) (empty_gives xs r t s left below) (roots_pop xs r t roots front root is)
-
-pub to_come_left : (t : Tree) (w : Walk) → w.failed ≡ false → to_come t w ≡ of_all w.settings.excludes w.settings.rules t w.stack w.roots
-unfolding to_come
-to_come_left t w e = ap (λ b. cond b [] (of_all w.settings.excludes w.settings.rules t w.stack w.roots)) e
-
-pub to_come_failed : (t : Tree) (w : Walk) → w.failed ≡ true → to_come t w ≡ []
-unfolding to_come
-to_come_failed t w e = ap (λ b. cond b [] (of_all w.settings.excludes w.settings.rules t w.stack w.roots)) e
-
--- a walk that is begun has all files of its roots to come
-pub begun : (t : Tree) (w : Walk) (xs : List Pattern) (roots : List (List ℕ)) → w.failed ≡ false
-    → w.settings.excludes ≡ xs → w.stack.left ≡ [] → w.stack.holders ≡ [] → w.roots ≡ reverse roots
-    → to_come t w ≡ descended xs w.settings.rules t roots
-unfolding of_roots descended
-begun t w xs roots e is left below turned_round =
-    to_come_left t w e ∙ ap (λ (q : List KeptFile). q ++ of_roots w.settings.excludes w.settings.rules t w.roots) (empty_gives w.settings.excludes w.settings.rules t w.stack left below)
-    ∙ ap₂ (λ (ys : List Pattern) (q : List (List ℕ)). flat_map (of_root ys w.settings.rules t) (reverse q)) is turned_round ∙ ap (flat_map (of_root xs w.settings.rules t)) (reverse-reverse roots)
-
-pub advances_by : (a a' b b' : List KeptFile) (o : Option KeptFile) → a ≡ a' → b ≡ b' → Advances a' b' o → Advances a b o
-advances_by a a' b b' None e f h = e ∙ h
-advances_by a a' b b' (Some k) e f h = e ∙ h ∙ ap (λ (q : List KeptFile). k ∷ q) (sym f)
-
-file_of : List ℕ → List ℕ → KeptFile
-file_of path place = record { path = path; place = place }
-
-pub one_file : (path root : List ℕ) (rest : List KeptFile) → path ≡ root → rest ≡ [] → kept root ≡ record { path = path; place = root } ∷ rest
-unfolding file_of
-one_file path root rest is none = λ i. file_of (sym is i) root ∷ sym none i
 
 -- a told tree is sound
 pub sound_of : (o : Option Tree) (t : Tree) → IsSound o → o ≡ Some t → is_sound t ≡ true

@@ -1,5 +1,5 @@
 -- The files that one descent through a known tree meets.
-use Rattle.std.specs.Prelude.{ℕ, zero, suc, ◌-◌, List, [], ◌∷◌, ◌++◌, Bool, true, false, Option, Some, None, Result, Ok, Err, map, reverse, length, if◌then◌else◌, cond}
+use Rattle.std.specs.Prelude.{ℕ, zero, suc, List, [], ◌∷◌, ◌++◌, Bool, true, false, Option, Some, None, Result, Ok, Err, map, if◌then◌else◌, cond}
 use Rattle.std.specs.List.{flat_map}
 use Rattle.tokei_folders.specs.declared.nodes.Node.{Node}
 use Rattle.tokei_folders.specs.declared.nodes.Node.TheVariants.{File as file, Folder as folder}
@@ -11,14 +11,12 @@ use Rattle.tokei_walk.specs.declared.kept_file.KeptFile.{KeptFile}
 use Rattle.tokei_walk.specs.declared.levels.Context.{Context}
 use Rattle.tokei_walk.specs.declared.levels.Rules.{Rules}
 use Rattle.tokei_walk.specs.declared.levels.Level.{Level}
-use Rattle.tokei_walk.specs.declared.stack.Stack.{Stack}
-use Rattle.tokei_walk.specs.declared.stack.Frame.{Frame}
 use Rattle.tokei_ignore.specs.declared.patterns.Pattern.{Pattern}
 use Rattle.tokei_folders.specs.Answers.{list_answer}
 use Rattle.tokei_folders.specs.Ends.{without_last}
 use Rattle.tokei_folders.specs.Places.{joined}
 use Rattle.tokei_ignore.specs.Fits.{is_empty}
-use Rattle.tokei_walk.specs.Kept.{greatest_depth, most_names}
+use Rattle.tokei_walk.specs.Kept.{most_names}
 use Rattle.tokei_walk.specs.Levels.{level_at, drops, under}
 use Rattle.tokei_folders.specs.Tree.{Names, Tree, node_at, names_of, folders_above}
 
@@ -108,24 +106,3 @@ outer context = record {
   names = without_last context.names;
   shown = without_last context.shown;
 }
-
--- what the folders give that are entered and not left, the innermost first
-unfoldable pub of_frames : List Pattern → Rules → Tree → Context → List Frame → List KeptFile
-of_frames excludes rules tree context [] = []
-of_frames excludes rules tree context (f ∷ fs) =
-    of_entries excludes rules (descend excludes rules tree (greatest_depth - length fs))
-    context f.place (reverse f.left)
-    ++ of_frames excludes rules tree (outer context) fs
-
--- what the folder that is walked still gives
-abbrev pub of_top : List Pattern → Rules → Tree → Stack → List KeptFile
-of_top excludes rules tree stack =
-    of_entries excludes rules (descend excludes rules tree (greatest_depth - length stack.holders))
-    stack.context stack.place
-    (reverse stack.left)
-
--- the files of the walked folder, and then those of the folders that hold it
-abbrev pub of_stack : List Pattern → Rules → Tree → Stack → List KeptFile
-of_stack excludes rules tree stack =
-    of_top excludes rules tree stack ++ of_frames excludes rules tree (outer stack.context)
-    (reverse stack.holders)

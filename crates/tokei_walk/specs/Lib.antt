@@ -12,12 +12,14 @@ pub use Rattle.tokei_ignore.specs.Trims
 pub mod Descent
 pub mod Kept
 pub mod Levels
+pub mod Met
+pub mod MetSteps
 pub mod Noted
-pub mod NoteSteps
 pub mod Notes
 pub mod Ranks
 pub mod Sought
 pub mod Stacks
+pub mod ToMeet
 pub mod Turns
 pub mod WalkLaws
 pub mod Walks

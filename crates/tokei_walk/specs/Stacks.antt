@@ -1,17 +1,15 @@
 -- How a step changes the folders that are walked.
-use Rattle.std.specs.Prelude.{◌≡◌, ◌<◌, ◌-◌, ◌^◌, ℕ, List, [], ◌∷◌, ◌++◌, Bool, true, false, cond, Option, Some, None, Ok, reverse, length}
+use Rattle.std.specs.Prelude.{◌≡◌, ◌<◌, ◌^◌, ℕ, List, [], ◌∷◌, ◌++◌, Bool, true, false, Option, Some, None, Ok, reverse, length}
 use Rattle.tokei_folders.specs.declared.fs.Entry.{Entry}
 use Rattle.tokei_walk.specs.declared.stack.Stack.{Stack}
 use Rattle.tokei_walk.specs.declared.stack.Step.{Step}
 use Rattle.tokei_walk.specs.declared.stack.Step.TheVariants.{Found, Passed, Ended}
 use Rattle.tokei_walk.specs.declared.kept_file.KeptFile.{KeptFile}
 use Rattle.tokei_walk.specs.declared.levels.Rules.{Rules}
-use Rattle.tokei_ignore.specs.declared.patterns.Pattern.{Pattern}
 use Rattle.tokei_folders.specs.Answers.{list_answer}
-use Rattle.tokei_walk.specs.Descent.{outer, descend, of_top, of_stack}
+use Rattle.tokei_walk.specs.Descent.{outer}
 use Rattle.tokei_folders.specs.Ends.{without_last}
-use Rattle.tokei_walk.specs.Kept.{greatest_depth}
-use Rattle.tokei_walk.specs.Levels.{level_at, drops, under}
+use Rattle.tokei_walk.specs.Levels.{level_at, under}
 use Rattle.tokei_folders.specs.Tree.{Tree, names_of}
 
 -- the next entry is taken from those that are left
@@ -47,25 +45,10 @@ pub record EntersTold (tree : Tree) (rules : Rules) (old new : Stack) (place : L
 abbrev pub at_entry : Stack → List ℕ → Stack
 at_entry stack name = record stack { context = under stack.context name }
 
--- what an entry that is a folder gives
-abbrev pub of_folder : List Pattern → Rules → Tree → Stack → List ℕ → List ℕ → List KeptFile
-of_folder excludes rules tree stack name place =
-    cond (drops excludes rules stack.context name true) []
-    (descend excludes rules tree (greatest_depth - length stack.holders)
-    (under stack.context name) place)
-
 -- a file that isn't dropped is found
 abbrev pub file_kept : Bool → List ℕ → Step
 file_kept true place = Passed
 file_kept false place = Found (record { path = place; place = place })
-
--- what a step over one entry leaves
-abbrev pub StepTells : List Pattern → Rules → Tree → Stack → Stack → Step → Type 0
-StepTells excludes rules tree old new (Found k) =
-    of_stack excludes rules tree old ≡ k ∷ of_stack excludes rules tree new
-StepTells excludes rules tree old new Passed =
-    of_top excludes rules tree old ≡ of_top excludes rules tree new
-StepTells excludes rules tree old new Ended = of_top excludes rules tree old ≡ []
 
 -- the walked folder stays, with what holds it
 abbrev pub Stays : Stack → Stack → Type 0
@@ -87,18 +70,3 @@ NoneStays old new (Some k) = Unit {0}
 abbrev pub NoneIsSame : Stack → Stack → Option KeptFile → Type 0
 NoneIsSame old new None = new ≡ old
 NoneIsSame old new (Some k) = Unit {0}
-
--- what a visit of a folder's entry leaves
-abbrev pub VisitTells : List Pattern → Rules → Tree → Stack → Stack → List ℕ → List ℕ
-    → Option KeptFile → Type 0
-VisitTells excludes rules tree old new name place None =
-    of_folder excludes rules tree old name place ≡ []
-VisitTells excludes rules tree old new name place (Some k) =
-    of_folder excludes rules tree old name place ++ of_stack excludes rules tree old
-    ≡ k ∷ of_stack excludes rules tree new
-
--- what the exploring of the walked folder leaves
-abbrev pub ExploreTells : List Pattern → Rules → Tree → Stack → Stack → Option KeptFile → Type 0
-ExploreTells excludes rules tree old new None = of_top excludes rules tree old ≡ []
-ExploreTells excludes rules tree old new (Some k) =
-    of_stack excludes rules tree old ≡ k ∷ of_stack excludes rules tree new

@@ -1,17 +1,9 @@
 -- What a walk leaves that goes on where the walked folder has nothing left.
-use Rattle.std.specs.Prelude.{◌≡◌, ◌<◌, ◌≤◌, ◌+◌, ℕ, List, [], ◌∷◌, length}
-use Rattle.tokei_walk.specs.declared.kept_file.KeptFile.{KeptFile}
+use Rattle.std.specs.Prelude.{◌≡◌, ◌<◌, ◌≤◌, ◌+◌, ℕ, List, [], length}
 use Rattle.tokei_walk.specs.declared.stack.Stack.{Stack}
 use Rattle.tokei_walk.specs.declared.stack.Step.{Step}
 use Rattle.tokei_walk.specs.declared.stack.Step.TheVariants.{Found, Passed, Ended}
 use Rattle.tokei_walk.specs.Ranks.{all_rank}
-
--- a file that is found is the first of those to come; they stay where none is found, and at the end
--- there is none
-abbrev pub TurnTells : List KeptFile → List KeptFile → Step → Type 0
-TurnTells old new (Found k) = old ≡ k ∷ new
-TurnTells old new Passed = old ≡ new
-TurnTells old new Ended = old ≡ []
 
 -- the measure falls with a file; where none is found it doesn't rise, and there is one root or one
 -- folder less; at the end nothing is left

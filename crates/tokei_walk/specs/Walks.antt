@@ -1,5 +1,5 @@
--- The files that a walk still has to come.
-use Rattle.std.specs.Prelude.{◌≡◌, ℕ, List, [], ◌∷◌, ◌++◌, Bool, true, false, Option, Some, None, reverse, map, String, string_bytes, ◌&&◌, ◌||◌, if◌then◌else◌}
+-- What a walk still has to come.
+use Rattle.std.specs.Prelude.{◌≡◌, ℕ, List, [], ◌∷◌, Bool, true, false, Option, Some, None, reverse, map, String, string_bytes, ◌&&◌, ◌||◌, if◌then◌else◌}
 use Rattle.std.specs.Global.{Global}
 use Rattle.std.specs.List.{flat_map}
 use Rattle.std.specs.Str.{chars}
@@ -13,26 +13,28 @@ use Rattle.tokei_walk.specs.declared.walking.Walk.{Walk}
 use Rattle.tokei_folders.specs.declared.fs.Kind.{Kind}
 use Rattle.tokei_folders.specs.declared.fs.Kind.TheVariants.{File, Folder, Other}
 use Rattle.tokei_folders.specs.Answers.{above_view, node_kind}
-use Rattle.tokei_walk.specs.Descent.{of_root, of_stack}
+use Rattle.tokei_walk.specs.Descent.{of_root}
 use Rattle.tokei_ignore.specs.Fits.{is_empty}
 use Rattle.tokei_ignore.specs.IgnoreFiles.{patterns_in}
 use Rattle.tokei_walk.specs.Levels.{level_at}
+use Rattle.tokei_walk.specs.Met.{Met, files_in, notes_in}
+use Rattle.tokei_walk.specs.ToMeet.{met_all}
+use Rattle.tokei_walk.specs.Noted.{Noted}
 use Rattle.tokei_ignore.specs.Patterns.{exclude_pattern}
 use Rattle.tokei_folders.specs.Tree.{Tree, Names, names_of, node_at}
 
--- the files of roots, the last one first
-unfoldable pub of_roots : List Pattern → Rules → Tree → List (List ℕ) → List KeptFile
-of_roots excludes rules tree roots = flat_map (of_root excludes rules tree) (reverse roots)
+-- what a walk still meets in a tree; one that has failed meets nothing
+unfoldable pub met_to_come : Tree → Walk → List Met
+met_to_come tree walk = if walk.failed then [] else met_all walk.settings.excludes
+    walk.settings.rules tree walk.stack walk.roots
 
--- the files of the walked folders, and then those of the roots that are left
-abbrev pub of_all : List Pattern → Rules → Tree → Stack → List (List ℕ) → List KeptFile
-of_all excludes rules tree stack roots =
-    of_stack excludes rules tree stack ++ of_roots excludes rules tree roots
-
--- the list of files still to come in a tree; a walk that has failed has none
+-- the files still to come in a tree
 unfoldable pub to_come : Tree → Walk → List KeptFile
-to_come tree walk = if walk.failed then [] else of_all walk.settings.excludes walk.settings.rules
-    tree walk.stack walk.roots
+to_come tree walk = files_in (met_to_come tree walk)
+
+-- what is still to be noted in a tree
+unfoldable pub noted_to_come : Tree → Walk → List Noted
+noted_to_come tree walk = notes_in (met_to_come tree walk)
 
 -- memory ran out in the walk
 unfoldable pub has_failed : Walk → Bool
@@ -71,11 +73,6 @@ excludes_of texts = flat_map exclude_patterns texts
 -- in no tree is a file to come
 abbrev pub HasEnded : Walk → Type 0
 HasEnded walk = (t : Tree) → to_come t walk ≡ []
-
--- the answer of a root that is begun: the first file of its own, and the rest is left
-abbrev pub RootGives : List KeptFile → List KeptFile → Option KeptFile → Type 0
-RootGives own left None = own ≡ left
-RootGives own left (Some k) = own ≡ k ∷ left
 
 -- a root that is a file is kept; one that is missing, a folder, or of another kind isn't one itself
 abbrev pub file_of_root : Option Kind → List ℕ → Option KeptFile

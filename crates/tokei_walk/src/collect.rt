@@ -3,9 +3,10 @@ ghost use Rattle.std.specs.Prelude.{◌≡◌, IfOk, OnOk};
 ghost use Rattle.tokei_folders.specs.Answers.{Told};
 ghost use Rattle.tokei_folders.specs.AsTheyWere.{AsTheyWere};
 ghost use Rattle.tokei_walk.specs.Kept.{kept_in};
-ghost use Rattle.tokei_walk.specs.Noted.{NotesSay, noted_in, noted_to_come};
+ghost use Rattle.tokei_walk.specs.Met.{noted_in};
+ghost use Rattle.tokei_walk.specs.Noted.{NotesSay};
 ghost use Rattle.tokei_walk.specs.Notes.{Grows, notes_of, notes_of_excludes};
-ghost use Rattle.tokei_walk.specs.Walks.{excludes_of, texts_of, to_come};
+ghost use Rattle.tokei_walk.specs.Walks.{excludes_of, noted_to_come, texts_of, to_come};
 
 use crate::kept_file::{KeptFile, Note};
 use crate::levels::Rules;

@@ -4,13 +4,16 @@ ghost use Rattle.tokei_folders.specs.Answers.{Told, node_kind};
 ghost use Rattle.tokei_folders.specs.AsTheyWere.{AsTheyWere};
 ghost use Rattle.tokei_folders.specs.Tree.{names_of, node_at};
 ghost use Rattle.tokei_ignore.specs.Fits.{is_empty};
-ghost use Rattle.tokei_walk.specs.Descent.{root_context, with_level, of_root, of_stack, descend};
+ghost use Rattle.tokei_walk.specs.Descent.{root_context, with_level};
 ghost use Rattle.tokei_walk.specs.Kept.{most_names};
-ghost use Rattle.tokei_walk.specs.Noted.{NotesCome, NotesSay, noted_above, noted_folder, noted_of, noted_root, noted_stack};
+ghost use Rattle.tokei_walk.specs.Met.{met_folder, met_root};
+ghost use Rattle.tokei_walk.specs.MetSteps.{Meets, with_found};
+ghost use Rattle.tokei_walk.specs.ToMeet.{met_stack};
+ghost use Rattle.tokei_walk.specs.Noted.{NotesSay, noted_above, noted_of};
 ghost use Rattle.tokei_walk.specs.Notes.{Grows, missing_note};
 ghost use Rattle.tokei_walk.specs.Ranks.{weight, stack_rank};
 ghost use Rattle.tokei_walk.specs.Sought.{level_of};
-ghost use Rattle.tokei_walk.specs.Walks.{RootGives, RootIs, file_of_root, texts_of};
+ghost use Rattle.tokei_walk.specs.Walks.{RootIs, file_of_root, texts_of};
 
 use crate::kept_file::{KeptFile, Note, NoteKind};
 use crate::levels::Context;
@@ -90,15 +93,10 @@ fn enter_root<F: Folders>(
     ensures holders { OnOk result (length stack.new.holders ≤ length stack.old.holders) }
     ensures bounded { OnOk result
         (stack_rank stack.new < stack_rank stack.old + weight most_names) }
-    ensures told { Told (F.tree folders.old) (λ t. OnOk result
-        (stack.old.left ≡ [] → stack.old.holders ≡ [] →
-        descend settings.now.excludes settings.now.rules t most_names
-        (root_context t settings.now.rules (names_of root)) root
-        ≡ of_stack settings.now.excludes settings.now.rules t stack.new)) }
-    ensures noted { Told (F.tree folders.old) (λ t. OnOk result
-        (stack.old.left ≡ [] → stack.old.holders ≡ [] → NotesCome notes.old
-        (noted_folder settings.now.excludes settings.now.rules t root) notes.new
-        (noted_stack settings.now.excludes settings.now.rules t stack.new))) }
+    ensures met { Told (F.tree folders.old) (λ t. OnOk result
+        (stack.old.left ≡ [] → stack.old.holders ≡ [] → Meets notes.old
+        (met_folder settings.now.excludes settings.now.rules t root) notes.new
+        (met_stack settings.now.excludes settings.now.rules t stack.new))) }
 {
     let Some(listing) = listing(settings.alloc, folders, notes, root.as_str())? else {
         return Ok(());
@@ -160,14 +158,10 @@ fn begin_known<F: Folders>(
     ensures holders { OnOk result (length stack.new.holders ≤ length stack.old.holders) }
     ensures bounded { OnOk result
         (stack_rank stack.new < stack_rank stack.old + weight most_names) }
-    ensures told { Told (F.tree folders.old) (λ t. RootIs t root.place root.kind
-        → IfOk result (λ o. stack.old.left ≡ [] → stack.old.holders ≡ [] → RootGives
-        (of_root settings.now.excludes settings.now.rules t root.place)
-        (of_stack settings.now.excludes settings.now.rules t stack.new) o)) }
-    ensures noted { Told (F.tree folders.old) (λ t. RootIs t root.place root.kind → OnOk result
-        (stack.old.left ≡ [] → stack.old.holders ≡ [] → NotesCome notes.old
-        (noted_root settings.now.excludes settings.now.rules t root.place) notes.new
-        (noted_stack settings.now.excludes settings.now.rules t stack.new))) }
+    ensures met { Told (F.tree folders.old) (λ t. RootIs t root.place root.kind
+        → IfOk result (λ o. stack.old.left ≡ [] → stack.old.holders ≡ [] → Meets notes.old
+        (met_root settings.now.excludes settings.now.rules t root.place) notes.new
+        (with_found o (met_stack settings.now.excludes settings.now.rules t stack.new)))) }
 {
     let alloc = settings.alloc;
     let Root { place, kind } = root;
@@ -203,14 +197,10 @@ pub fn begin_root<F: Folders>(
     ensures holders { OnOk result (length stack.new.holders ≤ length stack.old.holders) }
     ensures bounded { OnOk result
         (stack_rank stack.new < stack_rank stack.old + weight most_names) }
-    ensures told { Told (F.tree folders.old) (λ t. IfOk result (λ o.
-        stack.old.left ≡ [] → stack.old.holders ≡ [] → RootGives
-        (of_root settings.now.excludes settings.now.rules t root)
-        (of_stack settings.now.excludes settings.now.rules t stack.new) o)) }
-    ensures noted { Told (F.tree folders.old) (λ t. OnOk result
-        (stack.old.left ≡ [] → stack.old.holders ≡ [] → NotesCome notes.old
-        (noted_root settings.now.excludes settings.now.rules t root) notes.new
-        (noted_stack settings.now.excludes settings.now.rules t stack.new))) }
+    ensures met { Told (F.tree folders.old) (λ t. IfOk result (λ o.
+        stack.old.left ≡ [] → stack.old.holders ≡ [] → Meets notes.old
+        (met_root settings.now.excludes settings.now.rules t root) notes.new
+        (with_found o (met_stack settings.now.excludes settings.now.rules t stack.new)))) }
 {
     let kind = kind_of_root(folders, &root)?;
     let root = Root { place: root, kind };

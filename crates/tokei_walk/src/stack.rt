@@ -1,8 +1,9 @@
 //! The folders that are walked, and the way through them.
 ghost use Rattle.std.specs.Prelude.{◌≡◌, ◌<◌, ◌+◌, ◌-◌, ◌^◌, ◌++◌, [], ◌∷◌, length, reverse, cond, OnOk, OnSome, IfOk, IfSome, Err, None, true, false};
 ghost use Rattle.std.specs.Bool.{MatchBool};
-ghost use Rattle.tokei_walk.specs.Noted.{NotesCome, NotesSay, noted_top};
-ghost use Rattle.tokei_walk.specs.NoteSteps.{ExploreNotes, StepNotes, VisitNotes, noted_entering, noted_visit};
+ghost use Rattle.tokei_walk.specs.MetSteps.{ExploreMeets, Meets, StepMeets, VisitMeets, met_visit, noted_entering};
+ghost use Rattle.tokei_walk.specs.ToMeet.{met_top};
+ghost use Rattle.tokei_walk.specs.Noted.{NotesSay};
 ghost use Rattle.tokei_walk.specs.Notes.{Grows};
 ghost use Rattle.tokei_folders.specs.Answers.{Told, list_answer};
 ghost use Rattle.tokei_folders.specs.AsTheyWere.{AsTheyWere};
@@ -11,10 +12,10 @@ ghost use Rattle.tokei_folders.specs.Places.{joined as joined_places};
 ghost use Rattle.tokei_folders.specs.Tree.{Tree, names_of};
 ghost use Rattle.tokei_walk.specs.Kept.{greatest_depth};
 ghost use Rattle.tokei_walk.specs.Levels.{drops, under};
-ghost use Rattle.tokei_walk.specs.Descent.{without_name, of_top};
+ghost use Rattle.tokei_walk.specs.Descent.{without_name};
 ghost use Rattle.tokei_walk.specs.Walks.{is_spent as spent};
 ghost use Rattle.tokei_walk.specs.Ranks.{weight, stack_rank, FoundFalls};
-ghost use Rattle.tokei_walk.specs.Stacks.{Pops, Leaves, Enters, EntersTold, StepTells, StepStays, NoneStays, NoneIsSame, at_entry, file_kept, of_folder, VisitTells, ExploreTells};
+ghost use Rattle.tokei_walk.specs.Stacks.{Pops, Leaves, Enters, EntersTold, StepStays, NoneStays, NoneIsSame, at_entry, file_kept};
 
 use crate::kept_file::{KeptFile, Note, NoteKind};
 use crate::levels::{Context, Rules, judge};
@@ -204,12 +205,9 @@ fn push_folder_name(
     ensures kept { IfOk result (λ o. OnSome o
         (drops settings.now.excludes settings.now.rules stack.old.context name true ≡ false)) }
     ensures same { IfOk result (λ o. o ≡ None → stack.new ≡ stack.old) }
-    ensures passed { IfOk result (λ o. o ≡ None → (t : Tree)
-        → of_folder settings.now.excludes settings.now.rules t stack.old name
-        (joined_places stack.old.place name) ≡ []) }
-    ensures noted { IfOk result (λ o. o ≡ None → (t : Tree) → NotesSay notes.old notes.new
-        (noted_visit settings.now.excludes settings.now.rules t stack.old name
-        (joined_places stack.old.place name))) }
+    ensures met { IfOk result (λ o. o ≡ None → (t : Tree) → Meets notes.old
+        (met_visit settings.now.excludes settings.now.rules t stack.old name
+        (joined_places stack.old.place name)) notes.new []) }
     ensures quiet { IfOk result (λ o. OnSome o (notes.new ≡ notes.old)) }
 {
     let (dropped, name) = consider(settings, &mut stack.context, name, true)?;
@@ -241,14 +239,10 @@ fn enter_entry<F: Folders>(
     ensures shallow { IfOk result (λ b. b ≡ true → length stack.old.holders < greatest_depth) }
     ensures entered { IfOk result (λ b. b ≡ true
         → Enters (at_entry stack.old name) stack.new (joined_places stack.old.place name)) }
-    ensures told { Told (F.tree folders.old) (λ t. IfOk result (λ b.
-        of_folder settings.now.excludes settings.now.rules t stack.old name
-        (joined_places stack.old.place name)
-        ≡ cond b (of_top settings.now.excludes settings.now.rules t stack.new) [])) }
-    ensures noted { Told (F.tree folders.old) (λ t. IfOk result (λ b. NotesCome notes.old
-        (noted_visit settings.now.excludes settings.now.rules t stack.old name
+    ensures met { Told (F.tree folders.old) (λ t. IfOk result (λ b. Meets notes.old
+        (met_visit settings.now.excludes settings.now.rules t stack.old name
         (joined_places stack.old.place name)) notes.new
-        (cond b (noted_top settings.now.excludes settings.now.rules t stack.new) []))) }
+        (cond b (met_top settings.now.excludes settings.now.rules t stack.new) []))) }
 {
     let Some(place) = push_folder_name(settings, notes, stack, name)? else {
         return Ok(false);
@@ -274,11 +268,8 @@ fn visit<F: Folders>(
     ensures stays { IfOk result (λ o. NoneIsSame stack.old stack.new o) }
     ensures falls { IfOk result (λ o. OnSome o (stack_rank stack.new
         < stack_rank stack.old + weight (greatest_depth - length stack.old.holders))) }
-    ensures told { Told (F.tree folders.old) (λ t. IfOk result (λ o.
-        VisitTells settings.now.excludes settings.now.rules t stack.old stack.new
-        name (joined_places stack.old.place name) o)) }
-    ensures noted { Told (F.tree folders.old) (λ t. IfOk result (λ o.
-        VisitNotes settings.now.excludes settings.now.rules t stack.old stack.new notes.old
+    ensures met { Told (F.tree folders.old) (λ t. IfOk result (λ o.
+        VisitMeets settings.now.excludes settings.now.rules t stack.old stack.new notes.old
         notes.new name (joined_places stack.old.place name) o)) }
 {
     if !enter_entry(settings, folders, notes, stack, name)? {
@@ -305,9 +296,7 @@ fn meet_next<F: Folders>(
     ensures notes { Grows notes.old notes.new }
     ensures stays { IfOk result (λ s. StepStays stack.old stack.new s) }
     ensures falls { IfOk result (λ s. FoundFalls stack.old stack.new s) }
-    ensures told { Told (F.tree folders.old) (λ t. IfOk result (λ s.
-        StepTells settings.now.excludes settings.now.rules t stack.old stack.new s)) }
-    ensures noted { Told (F.tree folders.old) (λ t. IfOk result (λ s. StepNotes
+    ensures met { Told (F.tree folders.old) (λ t. IfOk result (λ s. StepMeets
         settings.now.excludes settings.now.rules t stack.old stack.new notes.old notes.new s)) }
 {
     let Some(entry) = next_entry(stack) else {
@@ -335,9 +324,7 @@ pub fn explore<F: Folders>(
     ensures notes { Grows notes.old notes.new }
     ensures stays { IfOk result (λ o. NoneStays stack.old stack.new o) }
     ensures falls { IfOk result (λ o. OnSome o (stack_rank stack.new < stack_rank stack.old)) }
-    ensures told { Told (F.tree folders.old) (λ t. IfOk result (λ o.
-        ExploreTells settings.now.excludes settings.now.rules t stack.old stack.new o)) }
-    ensures noted { Told (F.tree folders.old) (λ t. IfOk result (λ o. ExploreNotes
+    ensures met { Told (F.tree folders.old) (λ t. IfOk result (λ o. ExploreMeets
         settings.now.excludes settings.now.rules t stack.old stack.new notes.old notes.new o)) }
 {
     loop {

@@ -4,11 +4,14 @@ ghost use Rattle.tokei_folders.specs.Answers.{Told};
 ghost use Rattle.tokei_folders.specs.AsTheyWere.{AsTheyWere};
 ghost use Rattle.tokei_folders.specs.Tree.{Tree, is_sound};
 ghost use Rattle.tokei_walk.specs.Kept.{kept_in};
-ghost use Rattle.tokei_walk.specs.Noted.{NotesCome, noted_all, noted_in, noted_to_come};
+ghost use Rattle.tokei_walk.specs.Met.{met_in, noted_in};
+ghost use Rattle.tokei_walk.specs.MetSteps.{Meets, file_of, with_found};
+ghost use Rattle.tokei_walk.specs.ToMeet.{met_all};
+ghost use Rattle.tokei_walk.specs.Noted.{NotesCome};
 ghost use Rattle.tokei_walk.specs.Notes.{Grows, notes_of, notes_of_excludes};
 ghost use Rattle.tokei_walk.specs.Ranks.{all_rank, rank};
-ghost use Rattle.tokei_walk.specs.Turns.{TurnFalls, TurnTells};
-ghost use Rattle.tokei_walk.specs.Walks.{to_come, has_failed as walk_failed, is_over as over_now, of_all, Advances, HasEnded, excludes_of, texts_of};
+ghost use Rattle.tokei_walk.specs.Turns.{TurnFalls};
+ghost use Rattle.tokei_walk.specs.Walks.{to_come, met_to_come, noted_to_come, has_failed as walk_failed, is_over as over_now, Advances, HasEnded, excludes_of, texts_of};
 
 use crate::excludes::read_excludes;
 use crate::kept_file::{KeptFile, Note};
@@ -33,12 +36,10 @@ fn go_on<F: Folders>(
     ensures notes { Grows notes.old notes.new }
     ensures falls { IfOk result (λ s.
         TurnFalls stack.old roots.old stack.new roots.new s) }
-    ensures told { Told (F.tree folders.old) (λ t. IfOk result (λ s. TurnTells
-        (of_all settings.now.excludes settings.now.rules t stack.old roots.old)
-        (of_all settings.now.excludes settings.now.rules t stack.new roots.new) s)) }
-    ensures noted { Told (F.tree folders.old) (λ t. OnOk result (NotesCome notes.old
-        (noted_all settings.now.excludes settings.now.rules t stack.old roots.old) notes.new
-        (noted_all settings.now.excludes settings.now.rules t stack.new roots.new))) }
+    ensures met { Told (F.tree folders.old) (λ t. IfOk result (λ s. Meets notes.old
+        (met_all settings.now.excludes settings.now.rules t stack.old roots.old) notes.new
+        (with_found (file_of s)
+        (met_all settings.now.excludes settings.now.rules t stack.new roots.new)))) }
 {
     if leave(stack) {
         return Ok(Step::Passed);
@@ -66,12 +67,10 @@ fn advance<F: Folders>(
         (all_rank stack.new roots.new < all_rank stack.old roots.old)) }
     ensures ended { result ≡ Ok None
         → (stack.new.left ≡ []) × (stack.new.holders ≡ []) × (roots.new ≡ []) }
-    ensures told { Told (F.tree folders.old) (λ t. IfOk result (λ o. Advances
-        (of_all settings.now.excludes settings.now.rules t stack.old roots.old)
-        (of_all settings.now.excludes settings.now.rules t stack.new roots.new) o)) }
-    ensures noted { Told (F.tree folders.old) (λ t. OnOk result (NotesCome notes.old
-        (noted_all settings.now.excludes settings.now.rules t stack.old roots.old) notes.new
-        (noted_all settings.now.excludes settings.now.rules t stack.new roots.new))) }
+    ensures met { Told (F.tree folders.old) (λ t. IfOk result (λ o. Meets notes.old
+        (met_all settings.now.excludes settings.now.rules t stack.old roots.old) notes.new
+        (with_found o
+        (met_all settings.now.excludes settings.now.rules t stack.new roots.new)))) }
 {
     loop {
         match explore(settings, folders, notes, stack)? {
@@ -130,6 +129,8 @@ impl Walk {
         ensures notes { IfOk result (λ w. notes_of w ≡ notes_of_excludes (texts_of excludes.now)) }
         ensures noted { IfOk result (λ w. (t : Tree) → noted_to_come t w
             ≡ noted_in (excludes_of (texts_of excludes.now)) rules.now t (texts_of roots.now)) }
+        ensures met { IfOk result (λ w. (t : Tree) → met_to_come t w
+            ≡ met_in (excludes_of (texts_of excludes.now)) rules.now t (texts_of roots.now)) }
     {
         let mut notes = Items::new(alloc);
         let excludes = read_excludes(alloc, &mut notes, excludes)?;
@@ -157,8 +158,9 @@ impl Walk {
         self.failed || (self.stack.is_spent() && self.roots.is_empty())
     }
 
-    /// The next kept file, or `None` where none is left. A call that is refused, out of memory
-    /// alone, ends the walk: later calls answer `None`.
+    /// The next kept file, or `None` where none is left. The notes have by then what was met before
+    /// that file. A call that is refused, out of memory alone, ends the walk: later calls answer
+    /// `None`.
     #[tactic(auto, unfolding(crate::specs::Walks::has_failed))]
     pub fn next<F: Folders>(&mut self, folders: &mut F) -> Result<Option<KeptFile>, AllocError>
         ensures folders { AsTheyWere F.tree F.memory_faults folders.old folders.new result }
@@ -172,6 +174,9 @@ impl Walk {
         ensures notes { Grows (notes_of self.old) (notes_of self.new) }
         ensures noted { Told (F.tree folders.old) (λ t. OnOk result (NotesCome (notes_of self.old)
             (noted_to_come t self.old) (notes_of self.new) (noted_to_come t self.new))) }
+        ensures met { Told (F.tree folders.old) (λ t. IfOk result (λ o. Meets (notes_of self.old)
+            (met_to_come t self.old) (notes_of self.new)
+            (with_found o (met_to_come t self.new)))) }
         ensures refused { OnErr result (walk_failed self.new ≡ true) }
         ensures failed { walk_failed self.old ≡ true → result ≡ Ok None }
     {

@@ -4,9 +4,9 @@ use Rattle.std.specs.Prelude.{String}
 use Rattle.tokei_folders.specs.Tree.{Tree, is_sound}
 use Rattle.tokei_files.specs.Configs.{kept_by, noted_by}
 use Rattle.tokei_walk.specs.Kept.{kept_in}
-use Rattle.tokei_walk.specs.Walks.{excludes_of, texts_of, to_come}
+use Rattle.tokei_walk.specs.Walks.{excludes_of, noted_to_come, texts_of, to_come}
 use Rattle.tokei_walk.specs.declared.levels.Rules.{Rules}
-use Rattle.tokei_walk.specs.Noted.{noted_in, noted_to_come}
+use Rattle.tokei_walk.specs.Met.{noted_in}
 use Rattle.tokei.proofs.streaming.walk_of.Goals as goal
 
 pub returns-clause-comes : goal.returns-clause-comes

@@ -9,8 +9,8 @@ use Rattle.tokei_walk.proofs.Lasting.{stay_on, refused}
 use Rattle.tokei.proofs.WrittenRows.{all_rows, no_row_yet, one_row_more}
 use Rattle.tokei.specs.Streams.{file_row, rows_of}
 use Rattle.tokei_io.specs.declared.error.OutputError.TheVariants.{Overflow}
-use Rattle.tokei_walk.proofs.NoteSteps.{come_all}
-use Rattle.tokei_walk.proofs.NoteRoots.{over_notes}
+use Rattle.tokei_walk.proofs.Noting.{come_all}
+use Rattle.tokei_walk.proofs.Over.{over_notes}
 use Rattle.std.specs.Io.KnownBytes.{Appends}
 use Rattle.std.proofs.lemmas.Result.{err_from_is_err_and}
 use Rattle.tokei.specs.Shapes.{WritesSomeRows}

@@ -3,10 +3,10 @@ use Rattle.tokei_folders.specs.Answers.{Told}
 use Rattle.tokei_files.specs.Files.{ReadingsFit}
 use Rattle.tokei_files.specs.Seen.{counting_of}
 use Rattle.tokei_files.specs.Unread.{unread_of}
-use Rattle.tokei_walk.specs.Noted.{NotesCome, noted_to_come}
+use Rattle.tokei_walk.specs.Noted.{NotesCome}
 use Rattle.tokei_walk.specs.Notes.{Grows, notes_of}
 use Rattle.tokei_walk.specs.Ranks.{rank}
-use Rattle.tokei_walk.specs.Walks.{to_come}
+use Rattle.tokei_walk.specs.Walks.{noted_to_come, to_come}
 use Rattle.tokei.proofs.WrittenRows.{RowsSoFar}
 use Rattle.tokei.specs.Shapes.{WritesSomeRows}
 use Rattle.tokei.specs.Streams.{file_row}

@@ -11,8 +11,8 @@ use Rattle.tokei_files.specs.Seen.{counting_of}
 use Rattle.tokei_files.specs.Unread.{unread_of}
 use Rattle.tokei_files.proofs.UnreadNotes.{noted_more}
 use Rattle.tokei_statistics.proofs.Running.{none_yet, one_more, all_done, first_done, one_over, always_err}
-use Rattle.tokei_walk.proofs.NoteSteps.{come_all}
-use Rattle.tokei_walk.proofs.NoteRoots.{over_notes}
+use Rattle.tokei_walk.proofs.Noting.{come_all}
+use Rattle.tokei_walk.proofs.Over.{over_notes}
 use Rattle.tokei_statistics.proofs.counting.count_files.Goals as goal
 
 pub loop-file-init : goal.loop-file-init

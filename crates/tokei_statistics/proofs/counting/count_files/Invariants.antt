@@ -1,10 +1,10 @@
 use Rattle.std.proofs.Common.{◌≡◌, ◌<◌, ◌-◌, ◌^◌, ◌++◌}
 use Rattle.tokei_languages.specs.Seen.{languages_of}
 use Rattle.tokei_folders.specs.Answers.{Told}
-use Rattle.tokei_walk.specs.Noted.{NotesCome, noted_to_come}
+use Rattle.tokei_walk.specs.Noted.{NotesCome}
 use Rattle.tokei_walk.specs.Notes.{Grows, notes_of}
 use Rattle.tokei_walk.specs.Ranks.{rank}
-use Rattle.tokei_walk.specs.Walks.{to_come}
+use Rattle.tokei_walk.specs.Walks.{noted_to_come, to_come}
 use Rattle.tokei_files.specs.Seen.{counting_of}
 use Rattle.tokei_files.specs.Unread.{unread_of}
 use Rattle.tokei_statistics.proofs.Running.{SoFar}

@@ -4,8 +4,8 @@ use Rattle.tokei_walk.specs.Walks.{to_come, Advances}
 use Rattle.tokei_walk.proofs.Growing.{grows_on, grows_same}
 use Rattle.tokei_walk.proofs.RootSteps.{more}
 use Rattle.tokei_walk.proofs.Lasting.{stay_on, refused}
-use Rattle.tokei_walk.proofs.NoteSteps.{come_all}
-use Rattle.tokei_walk.proofs.NoteRoots.{over_notes}
+use Rattle.tokei_walk.proofs.Noting.{come_all}
+use Rattle.tokei_walk.proofs.Over.{over_notes}
 use Rattle.tokei_walk.proofs.collect.files_to_come.Goals as goal
 
 pub loop-files-init : goal.loop-files-init

@@ -1,9 +1,9 @@
 use Rattle.std.proofs.Common.{◌≡◌, ◌++◌, ◌<◌, ◌-◌, ◌^◌}
 use Rattle.tokei_folders.specs.Answers.{Told}
-use Rattle.tokei_walk.specs.Noted.{NotesCome, noted_to_come}
+use Rattle.tokei_walk.specs.Noted.{NotesCome}
 use Rattle.tokei_walk.specs.Notes.{Grows, notes_of}
 use Rattle.tokei_walk.specs.Ranks.{rank}
-use Rattle.tokei_walk.specs.Walks.{to_come}
+use Rattle.tokei_walk.specs.Walks.{noted_to_come, to_come}
 use Rattle.tokei_walk.proofs.collect.files_to_come.Given as goal
 
 abbrev pub invariant-loop-files : goal.invariant-loop-files

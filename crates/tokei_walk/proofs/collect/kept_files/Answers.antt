@@ -1,9 +1,10 @@
 use Rattle.std.proofs.Common.{◌≡◌, ◌∙◌, List, Result, sym, subst, IfOk, OnOk}
-use Rattle.tokei_walk.specs.Walks.{excludes_of, texts_of, to_come}
+use Rattle.tokei_walk.specs.Met.{noted_in}
+use Rattle.tokei_walk.specs.Walks.{excludes_of, noted_to_come, texts_of, to_come}
 use Rattle.tokei_walk.proofs.Growing.{grows_on, grows_same}
 use Rattle.tokei_walk.proofs.RootSteps.{sound_of}
 use Rattle.tokei_walk.specs.declared.kept_file.Note.{Note}
-use Rattle.tokei_walk.specs.Noted.{NotesSay, noted_in, noted_to_come}
+use Rattle.tokei_walk.specs.Noted.{NotesSay}
 use Rattle.tokei_walk.specs.Notes.{notes_of}
 use Rattle.tokei_walk.proofs.Noting.{says_what}
 use Rattle.tokei_walk.proofs.collect.kept_files.Goals as goal

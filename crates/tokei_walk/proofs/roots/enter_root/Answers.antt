@@ -4,46 +4,13 @@ use Rattle.tokei_folders.specs.declared.fs.Listing.{Listing}
 use Rattle.tokei_folders.specs.declared.fs.Fault.TheVariants.{Refused}
 use Rattle.tokei_folders.specs.Answers.{list_answer}
 use Rattle.tokei_folders.specs.Tree.{names_of}
-use Rattle.tokei_walk.specs.Descent.{root_context}
 use Rattle.tokei_walk.specs.Sought.{listed}
 use Rattle.tokei_walk.proofs.Ranking.{below_root, root_rank}
-use Rattle.tokei_walk.proofs.RootSteps.{root_walked}
-use Rattle.tokei_walk.proofs.StackSteps.{root_unlisted}
 use Rattle.tokei_walk.proofs.Growing.{grows_on}
-use Rattle.tokei_walk.proofs.Lasting.{lasts, answers, on_ok, on_ok_by, on_ok_by2}
+use Rattle.tokei_walk.proofs.Lasting.{lasts, answers, on_ok, on_ok_by2}
 use Rattle.tokei_walk.specs.Noted.{NotesSay, noted_unlisted}
-use Rattle.tokei_walk.proofs.NoteRoots.{root_unlisted_notes, root_walked_notes}
+use Rattle.tokei_walk.proofs.MetRoots.{root_unlisted, root_walked}
 use Rattle.tokei_walk.proofs.roots.enter_root.Goals as goal
-
-pub returns-in_default-clause-told : goal.returns-in_default-clause-told
-returns-in_default-clause-told g c = λ t e left below.
-    let x = c.args.settings.now in let root = c.args.root in let at = c.as_str.result.now in
-    let told =
-    subst
-    (λ (o : Option Listing). MatchOption o (list_answer t (names_of at) ≡ Err Refused)
-    (λ l. list_answer t (names_of at) ≡ Ok l.entries.items))
-    c.in_default.is (c.in_ok-listing.ensures.told t e) in
-    let refused = ap (λ p. list_answer t (names_of p)) (sym c.as_str.ensures) ∙ told in
-    root_unlisted x.excludes x.rules t c.args.stack.now (root_context t x.rules (names_of root)) root refused left below
-
-pub returns-clause-told : goal.returns-clause-told
-returns-clause-told g c = λ t e.
-    let x = c.args.settings.now in let root = c.args.root in let at = c.as_str.result.now in
-    let told =
-    subst
-    (λ (o : Option Listing). MatchOption o (list_answer t (names_of at) ≡ Err Refused)
-    (λ l. list_answer t (names_of at) ≡ Ok l.entries.items))
-    c.in-Some.is (c.in_ok-listing.ensures.told t e) in
-    let entries = ap (λ p. list_answer t (names_of p)) (sym c.as_str.ensures) ∙ told in
-    let sought = c.sought_among-sought.ensures ∙ ap (listed x.rules) c.as_slice.ensures.value in
-    let walked = c.walk_root.ensures in let s = c.walk_root.new.stack in
-    on_ok_by c.set_context_in_root.result
-    (λ made left below.
-    root_walked x.excludes x.rules t (record { context = c.set_context_in_root.new.context; place = s.place; left = s.left; holders = s.holders })
-    c.set_context_in_root.new.context c.sought_among-sought.result
-    root c.as_str-place.result.now c.in-Some.listing.entries.items entries sought (c.as_str-place.ensures ∙ walked.place)
-    made refl walked.place walked.entries walked.holders)
-    (c.set_context_in_root.ensures.told t (c.listing.ensures.folders.same ∙ e))
 
 pub returns-clause-holders : goal.returns-clause-holders
 returns-clause-holders g c = on_ok c.set_context_in_root.result (omega (arith, ap length c.walk_root.ensures.holders))
@@ -70,8 +37,8 @@ returns-in_default-clause-folders g c = answers c.in_ok-listing.ensures.folders
 pub returns-clause-folders : goal.returns-clause-folders
 returns-clause-folders g c = lasts c.in_ok-listing.ensures.folders c.set_context_in_root.ensures.folders
 
-pub returns-in_default-clause-noted : goal.returns-in_default-clause-noted
-returns-in_default-clause-noted g c = λ t e left below.
+pub returns-in_default-clause-met : goal.returns-in_default-clause-met
+returns-in_default-clause-met g c = λ t e left below.
     let x = c.args.settings.now in let root = c.args.root in let at = c.as_str.result.now in
     let told =
     subst
@@ -83,10 +50,10 @@ returns-in_default-clause-noted g c = λ t e left below.
     subst (λ (p : List ℕ). NotesSay c.args.notes.now c.listing.new.notes (noted_unlisted (names_of p) None)) c.as_str.ensures
     (subst (λ (o : Option Listing). NotesSay c.args.notes.now c.listing.new.notes (noted_unlisted (names_of at) o)) c.in_default.is
     (c.in_ok-listing.ensures.said t e)) in
-    root_unlisted_notes x.excludes x.rules t c.args.stack.now root c.args.notes.now c.listing.new.notes refused left below said
+    root_unlisted x.excludes x.rules t c.args.stack.now root c.args.notes.now c.listing.new.notes refused left below said
 
-pub returns-clause-noted : goal.returns-clause-noted
-returns-clause-noted g c = λ t e.
+pub returns-clause-met : goal.returns-clause-met
+returns-clause-met g c = λ t e.
     let x = c.args.settings.now in let root = c.args.root in let at = c.as_str.result.now in
     let told =
     subst
@@ -102,7 +69,7 @@ returns-clause-noted g c = λ t e.
     let first = c.listing.ensures.folders.same ∙ e in
     on_ok_by2 c.set_context_in_root.result
     (λ made said left below.
-    root_walked_notes x.excludes x.rules t (record { context = c.set_context_in_root.new.context; place = s.place; left = s.left; holders = s.holders })
+    root_walked x.excludes x.rules t (record { context = c.set_context_in_root.new.context; place = s.place; left = s.left; holders = s.holders })
     c.set_context_in_root.new.context c.sought_among-sought.result
     root c.as_str-place.result.now c.in-Some.listing.entries.items c.args.notes.now c.listing.new.notes c.set_context_in_root.new.notes
     entries sought (c.as_str-place.ensures ∙ walked.place)

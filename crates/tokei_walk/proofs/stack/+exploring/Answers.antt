@@ -1,61 +1,24 @@
-use Rattle.std.proofs.Common.{◌≡◌, ◌+◌, ◌-◌, ◌++◌, ◌≤◌, ◌<◌, List, [], ◌∷◌, length, reverse, Bool, cond, Option, OnSome, refl, sym, ap, ◌∙◌, arith, subst, rules}
+use Rattle.std.proofs.Common.{◌≡◌, ◌+◌, ◌-◌, ◌++◌, ◌≤◌, ◌<◌, [], ◌∷◌, length, Bool, cond, Option, OnSome, refl, sym, ap, ◌∙◌, arith, subst, rules}
 use Rattle.std.proofs.lemmas.List.{length-append}
 use Rattle.tokei_walk.specs.declared.kept_file.KeptFile.{KeptFile}
 use Rattle.tokei_folders.specs.declared.fs.Entry.{Entry}
 use Rattle.tokei_folders.specs.Places.{joined}
-use Rattle.tokei_walk.specs.Descent.{of_top, of_stack}
 use Rattle.tokei_walk.specs.declared.stack.Frame.{Frame}
 use Rattle.tokei_walk.specs.declared.stack.Stack.{Stack}
 use Rattle.tokei_walk.specs.Levels.{under}
 use Rattle.tokei_walk.specs.declared.stack.Step.{Step}
 use Rattle.tokei_walk.specs.Ranks.{weight, stack_rank, FoundFalls}
-use Rattle.tokei_walk.specs.Stacks.{Pops, VisitTells, ExploreTells, NoneIsSame, NoneStays, StepStays, StepTells}
-use Rattle.tokei_walk.proofs.StackSteps.{top_ends, tells_other, file_told, tells_folder_some, tells_folder_none, stack_entered, visit_left, same_stack}
+use Rattle.tokei_walk.specs.Stacks.{Pops, NoneIsSame, NoneStays, StepStays}
+use Rattle.tokei_walk.proofs.StackSteps.{visit_left}
 use Rattle.tokei_walk.proofs.Growing.{grows_on, grows_same}
 use Rattle.tokei_walk.proofs.Ranking.{popped, entered_rank, stays_rank, file_falls, fewer_left, file_stays}
 use Rattle.tokei_walk.proofs.Lasting.{lasts, answers, refused, stay_on}
 use Rattle.tokei_walk.specs.declared.stack.Step.TheVariants.{Passed}
-use Rattle.tokei_walk.specs.Noted.{Noted, NotesCome, noted_stack, noted_top, said_in}
-use Rattle.tokei_walk.specs.NoteSteps.{ExploreNotes, StepNotes, VisitNotes, noted_visit}
-use Rattle.tokei_walk.proofs.NoteSteps.{come_all, come_in_stack, come_more, notes_ended, notes_none, notes_of_file, notes_other, notes_some, stack_entered as notes_entered}
+use Rattle.tokei_walk.specs.MetSteps.{ExploreMeets, Meets, StepMeets, VisitMeets, met_visit}
+use Rattle.tokei_walk.specs.ToMeet.{met_stack, met_top}
+use Rattle.tokei_walk.proofs.Meeting.{met_more, met_to}
+use Rattle.tokei_walk.proofs.MetSteps.{meets_ended, meets_file, meets_in_stack, meets_none, meets_other, meets_some, stack_entered}
 use Rattle.tokei_walk.proofs.stack.+exploring.Goals as goal
-
-pub meet_next-returns-in_default-clause-told : goal.meet_next-returns-in_default-clause-told
-meet_next-returns-in_default-clause-told g t c = λ t' e.
-    let s = c.args.stack.now in let x = c.args.settings.now in
-    let pops = subst (λ (o : Option Entry). Pops s c.next_entry.new.stack o) c.in_default.is c.next_entry.ensures in
-    top_ends x.excludes x.rules t' s (ap reverse pops.0)
-
-pub meet_next-returns-in-Other-clause-told : goal.meet_next-returns-in-Other-clause-told
-meet_next-returns-in-Other-clause-told g t c = λ t' e.
-    let s = c.args.stack.now in let x = c.args.settings.now in
-    let pops = subst (λ (o : Option Entry). Pops s c.next_entry.new.stack o) c.in-Some.is c.next_entry.ensures in
-    tells_other x.excludes x.rules t' s c.next_entry.new.stack c.in-Some.entry pops c.in-Other.is
-
-pub meet_next-returns-in-File-clause-told : goal.meet_next-returns-in-File-clause-told
-meet_next-returns-in-File-clause-told g t c = λ t' e.
-    let s = c.args.stack.now in let x = c.args.settings.now in
-    let pops = subst (λ (o : Option Entry). Pops s c.next_entry.new.stack o) c.in-Some.is c.next_entry.ensures in
-    file_told x.excludes x.rules t' s c.next_entry.new.stack c.file_step.new.stack c.in-Some.entry c.file_step.result pops c.in-File.is c.file_step.ensures.stays c.file_step.ensures.kept
-
-pub meet_next-returns-in-Some-2-clause-told : goal.meet_next-returns-in-Some-2-clause-told
-meet_next-returns-in-Some-2-clause-told g t c = λ t' e.
-    let s = c.args.stack.now in let x = c.args.settings.now in let u = c.next_entry.new.stack in let entry = c.in-Some.entry in
-    let pops = subst (λ (o : Option Entry). Pops s u o) c.in-Some.is c.next_entry.ensures in
-    let told =
-    subst
-    (λ (o : Option KeptFile). VisitTells x.excludes x.rules t' u c.visit.new.stack entry.name
-    (joined u.place entry.name) o)
-    c.in-Some-2.is (c.in_ok-file-in-Folder.ensures.told t' e) in
-    tells_folder_some x.excludes x.rules t' s u c.visit.new.stack entry c.in-Some-2.file pops c.in-Folder.is told
-
-pub meet_next-returns-in-None-clause-told : goal.meet_next-returns-in-None-clause-told
-meet_next-returns-in-None-clause-told g t c = λ t' e.
-    let s = c.args.stack.now in let x = c.args.settings.now in let u = c.next_entry.new.stack in let entry = c.in-Some.entry in
-    let pops = subst (λ (o : Option Entry). Pops s u o) c.in-Some.is c.next_entry.ensures in
-    let told = subst (λ (o : Option KeptFile). VisitTells x.excludes x.rules t' u c.visit.new.stack entry.name (joined u.place entry.name) o) c.in-None.is (c.in_ok-file-in-Folder.ensures.told t' e) in
-    let same = subst (λ (o : Option KeptFile). NoneIsSame u c.visit.new.stack o) c.in-None.is c.in_ok-file-in-Folder.ensures.stays in
-    tells_folder_none x.excludes x.rules t' s u c.visit.new.stack entry pops c.in-Folder.is same told
 
 pub explore-loop-file-preserved : goal.explore-loop-file-preserved
 explore-loop-file-preserved g t c =
@@ -67,9 +30,8 @@ explore-loop-file-preserved g t c =
       honest = stay_on g.F.Folders.memory_faults _ _ _ inv.honest c.in_ok-file.ensures.folders.honest;
       stays = (stays.0.0 ∙ inv.stays.0, stays.0.1 ∙ inv.stays.1, stays.0.2 ∙ inv.stays.2);
       falls = omega (arith, stays_rank s v stays.0 fewer, inv.falls);
-      told = λ t' e. inv.told t' e ∙ subst (λ (o : Step). StepTells x.excludes x.rules t' s v o) c.in-Passed.is (c.in_ok-file.ensures.told t' (inv.same ∙ e));
-      noted = λ t' e. inv.noted t' e
-          ∙ subst (λ (o : Step). StepNotes x.excludes x.rules t' s v c.loop-file.notes c.meet_next.new.notes o) c.in-Passed.is (c.in_ok-file.ensures.noted t' (inv.same ∙ e));
+      met = λ t' e. inv.met t' e
+          ∙ subst (λ (o : Step). StepMeets x.excludes x.rules t' s v c.loop-file.notes c.meet_next.new.notes o) c.in-Passed.is (c.in_ok-file.ensures.met t' (inv.same ∙ e));
     }
 
 pub meet_next-returns-in-File-clause-falls : goal.meet_next-returns-in-File-clause-falls
@@ -85,11 +47,6 @@ meet_next-returns-in-Some-2-clause-falls g t c =
     let below = ap (λ (w : Stack). weight (256 - length w.holders)) pops.1 in
     omega (arith, popped s u c.in-Some.entry pops, below, falls)
 
-pub visit-returns-then-not-branch-clause-told : goal.visit-returns-then-not-branch-clause-told
-visit-returns-then-not-branch-clause-told g t c = λ t' e.
-    let x = c.args.settings.now in
-    c.in_ok-enter_entry.ensures.told t' e ∙ ap (λ (b : Bool). cond b (of_top x.excludes x.rules t' c.enter_entry.new.stack) []) c.if-not-branch.true
-
 pub visit-explore-requires : goal.visit-explore-requires
 visit-explore-requires g t c κs within =
     let s = c.args.stack.now in
@@ -98,15 +55,6 @@ visit-explore-requires g t c κs within =
     let shallow = c.in_ok-enter_entry.ensures.shallow c.if-not-branch.false in
     let deeper : length c.enter_entry.new.stack.holders ≡ length s.holders + 1 = ap length enters.holders_is ∙ length-append s.holders (f ∷ []) in
     (omega (arith, shallow, deeper), search rules)
-
-pub visit-returns-in-Some-clause-told : goal.visit-returns-in-Some-clause-told
-visit-returns-in-Some-clause-told g t c = λ t' e.
-    let x = c.args.settings.now in let s = c.args.stack.now in let u = c.enter_entry.new.stack in let name = c.args.name in
-    let enters = c.in_ok-enter_entry.ensures.entered c.if-not-branch.false in
-    let own = c.in_ok-enter_entry.ensures.told t' e ∙ ap (λ (b : Bool). cond b (of_top x.excludes x.rules t' u) []) c.if-not-branch.false in
-    let explored = subst (λ (o : Option KeptFile). ExploreTells x.excludes x.rules t' u c.explore.new.stack o) c.in-Some.is (c.in_ok-file.ensures.told t' (c.enter_entry.ensures.folders.same ∙ e)) in
-    ap (λ (q : List KeptFile). q ++ of_stack x.excludes x.rules t' s) own
-    ∙ sym (stack_entered x.excludes x.rules t' s u (under s.context name) name (joined s.place name) refl enters) ∙ explored
 
 pub visit-returns-in-Some-clause-falls : goal.visit-returns-in-Some-clause-falls
 visit-returns-in-Some-clause-falls g t c =
@@ -122,13 +70,6 @@ visit-returns-in-None-clause-stays g t c =
     let stays = subst (λ (o : Option KeptFile). NoneStays u c.explore.new.stack o) c.in-None.is c.in_ok-file.ensures.stays in
     visit_left s u c.explore.new.stack c.leave.new.stack (under s.context name) c.leave.result name (joined s.place name) refl
     (c.in_ok-enter_entry.ensures.entered c.if-not-branch.false) stays.0 c.leave.ensures
-
-pub visit-returns-in-None-clause-told : goal.visit-returns-in-None-clause-told
-visit-returns-in-None-clause-told g t c = λ t' e.
-    let x = c.args.settings.now in let u = c.enter_entry.new.stack in
-    let own = c.in_ok-enter_entry.ensures.told t' e ∙ ap (λ (b : Bool). cond b (of_top x.excludes x.rules t' u) []) c.if-not-branch.false in
-    let explored = subst (λ (o : Option KeptFile). ExploreTells x.excludes x.rules t' u c.explore.new.stack o) c.in-None.is (c.in_ok-file.ensures.told t' (c.enter_entry.ensures.folders.same ∙ e)) in
-    own ∙ explored
 
 pub explore-returns-in_err-file-clause-notes : goal.explore-returns-in_err-file-clause-notes
 explore-returns-in_err-file-clause-notes g t c = grows_on _ _ _ c.loop-file.invariant.notes c.meet_next.ensures.notes
@@ -164,8 +105,7 @@ explore-loop-file-init g t c = record {
   honest = λ h. refl;
   stays = (refl, refl, refl);
   falls = omega arith;
-  told = λ t' e. refl;
-  noted = λ t' e. refl;
+  met = λ t' e. refl;
 }
 
 pub visit-returns-then-not-branch-clause-folders : goal.visit-returns-then-not-branch-clause-folders
@@ -202,23 +142,11 @@ explore-returns-in-Found-clause-falls g t c =
     let falls = subst (λ (o : Step). FoundFalls c.loop-file.stack c.meet_next.new.stack o) c.in-Found.is c.in_ok-file.ensures.falls in
     omega (arith, falls, c.loop-file.invariant.falls)
 
-pub explore-returns-in-Found-clause-told : goal.explore-returns-in-Found-clause-told
-explore-returns-in-Found-clause-told g t c = λ t' e.
-    let inv = c.loop-file.invariant in let x = c.args.settings.now in let s = c.loop-file.stack in
-    let found = subst (λ (o : Step). StepTells x.excludes x.rules t' s c.meet_next.new.stack o) c.in-Found.is (c.in_ok-file.ensures.told t' (inv.same ∙ e)) in
-    same_stack x.excludes x.rules t' c.args.stack.now s inv.stays (inv.told t' e) ∙ found
-
 pub explore-returns-in-Ended-clause-stays : goal.explore-returns-in-Ended-clause-stays
 explore-returns-in-Ended-clause-stays g t c =
     let inv = c.loop-file.invariant in
     let stays = subst (λ (o : Step). StepStays c.loop-file.stack c.meet_next.new.stack o) c.in-Ended.is c.in_ok-file.ensures.stays in
     ((stays.0.0 ∙ inv.stays.0, stays.0.1 ∙ inv.stays.1, stays.0.2 ∙ inv.stays.2), stays.1)
-
-pub explore-returns-in-Ended-clause-told : goal.explore-returns-in-Ended-clause-told
-explore-returns-in-Ended-clause-told g t c = λ t' e.
-    let inv = c.loop-file.invariant in let x = c.args.settings.now in
-    let ended = subst (λ (o : Step). StepTells x.excludes x.rules t' c.loop-file.stack c.meet_next.new.stack o) c.in-Ended.is (c.in_ok-file.ensures.told t' (inv.same ∙ e)) in
-    inv.told t' e ∙ ended
 
 pub meet_next-returns-in-Other-clause-stays : goal.meet_next-returns-in-Other-clause-stays
 meet_next-returns-in-Other-clause-stays g t c =
@@ -261,92 +189,91 @@ meet_next-returns-in_default-clause-stays g t c =
     let pops = subst (λ (o : Option Entry). Pops c.args.stack.now c.next_entry.new.stack o) c.in_default.is c.next_entry.ensures in
     ((ap (λ (u : Stack). u.context) pops.1, ap (λ (u : Stack). u.place) pops.1, ap (λ (u : Stack). u.holders) pops.1), ap (λ (u : Stack). u.left) pops.1 ∙ pops.0)
 
-pub meet_next-returns-in_default-clause-noted : goal.meet_next-returns-in_default-clause-noted
-meet_next-returns-in_default-clause-noted g t c = λ t' e.
+pub meet_next-returns-in_default-clause-met : goal.meet_next-returns-in_default-clause-met
+meet_next-returns-in_default-clause-met g t c = λ t' e.
     let s = c.args.stack.now in let x = c.args.settings.now in
     let pops = subst (λ (o : Option Entry). Pops s c.next_entry.new.stack o) c.in_default.is c.next_entry.ensures in
-    notes_ended x.excludes x.rules t' s c.next_entry.new.stack c.args.notes.now pops
+    meets_ended x.excludes x.rules t' s c.next_entry.new.stack c.args.notes.now pops
 
-pub meet_next-returns-in-Other-clause-noted : goal.meet_next-returns-in-Other-clause-noted
-meet_next-returns-in-Other-clause-noted g t c = λ t' e.
+pub meet_next-returns-in-Other-clause-met : goal.meet_next-returns-in-Other-clause-met
+meet_next-returns-in-Other-clause-met g t c = λ t' e.
     let s = c.args.stack.now in let x = c.args.settings.now in
     let pops = subst (λ (o : Option Entry). Pops s c.next_entry.new.stack o) c.in-Some.is c.next_entry.ensures in
-    notes_other x.excludes x.rules t' s c.next_entry.new.stack c.in-Some.entry c.args.notes.now pops c.in-Other.is
+    meets_other x.excludes x.rules t' s c.next_entry.new.stack c.in-Some.entry c.args.notes.now pops c.in-Other.is
 
-pub meet_next-returns-in-File-clause-noted : goal.meet_next-returns-in-File-clause-noted
-meet_next-returns-in-File-clause-noted g t c = λ t' e.
+pub meet_next-returns-in-File-clause-met : goal.meet_next-returns-in-File-clause-met
+meet_next-returns-in-File-clause-met g t c = λ t' e.
     let s = c.args.stack.now in let x = c.args.settings.now in
     let pops = subst (λ (o : Option Entry). Pops s c.next_entry.new.stack o) c.in-Some.is c.next_entry.ensures in
-    notes_of_file x.excludes x.rules t' s c.next_entry.new.stack c.file_step.new.stack c.in-Some.entry c.args.notes.now _ _ c.file_step.result pops c.in-File.is
+    meets_file x.excludes x.rules t' s c.next_entry.new.stack c.file_step.new.stack c.in-Some.entry c.args.notes.now c.file_step.result pops c.in-File.is
     c.file_step.ensures.stays c.file_step.ensures.kept
 
-pub meet_next-returns-in-Some-2-clause-noted : goal.meet_next-returns-in-Some-2-clause-noted
-meet_next-returns-in-Some-2-clause-noted g t c = λ t' e.
+pub meet_next-returns-in-Some-2-clause-met : goal.meet_next-returns-in-Some-2-clause-met
+meet_next-returns-in-Some-2-clause-met g t c = λ t' e.
     let s = c.args.stack.now in let x = c.args.settings.now in let u = c.next_entry.new.stack in let entry = c.in-Some.entry in
     let pops = subst (λ (o : Option Entry). Pops s u o) c.in-Some.is c.next_entry.ensures in
-    let come =
-    subst (λ (o : Option KeptFile). VisitNotes x.excludes x.rules t' u c.visit.new.stack c.args.notes.now c.visit.new.notes entry.name (joined u.place entry.name) o)
-    c.in-Some-2.is (c.in_ok-file-in-Folder.ensures.noted t' e) in
-    notes_some x.excludes x.rules t' s u c.visit.new.stack entry c.args.notes.now c.visit.new.notes pops c.in-Folder.is come
+    let met =
+    subst (λ (o : Option KeptFile). VisitMeets x.excludes x.rules t' u c.visit.new.stack c.args.notes.now c.visit.new.notes entry.name (joined u.place entry.name) o)
+    c.in-Some-2.is (c.in_ok-file-in-Folder.ensures.met t' e) in
+    meets_some x.excludes x.rules t' s u entry c.args.notes.now c.visit.new.notes _ pops c.in-Folder.is met
 
-pub meet_next-returns-in-None-clause-noted : goal.meet_next-returns-in-None-clause-noted
-meet_next-returns-in-None-clause-noted g t c = λ t' e.
+pub meet_next-returns-in-None-clause-met : goal.meet_next-returns-in-None-clause-met
+meet_next-returns-in-None-clause-met g t c = λ t' e.
     let s = c.args.stack.now in let x = c.args.settings.now in let u = c.next_entry.new.stack in let entry = c.in-Some.entry in
     let pops = subst (λ (o : Option Entry). Pops s u o) c.in-Some.is c.next_entry.ensures in
-    let said =
-    subst (λ (o : Option KeptFile). VisitNotes x.excludes x.rules t' u c.visit.new.stack c.args.notes.now c.visit.new.notes entry.name (joined u.place entry.name) o)
-    c.in-None.is (c.in_ok-file-in-Folder.ensures.noted t' e) in
+    let met =
+    subst (λ (o : Option KeptFile). VisitMeets x.excludes x.rules t' u c.visit.new.stack c.args.notes.now c.visit.new.notes entry.name (joined u.place entry.name) o)
+    c.in-None.is (c.in_ok-file-in-Folder.ensures.met t' e) in
     let same = subst (λ (o : Option KeptFile). NoneIsSame u c.visit.new.stack o) c.in-None.is c.in_ok-file-in-Folder.ensures.stays in
-    notes_none x.excludes x.rules t' s u c.visit.new.stack entry c.args.notes.now c.visit.new.notes pops c.in-Folder.is same said
+    meets_none x.excludes x.rules t' s u c.visit.new.stack entry c.args.notes.now c.visit.new.notes pops c.in-Folder.is same met
 
-pub visit-returns-then-not-branch-clause-noted : goal.visit-returns-then-not-branch-clause-noted
-visit-returns-then-not-branch-clause-noted g t c = λ t' e.
+pub visit-returns-then-not-branch-clause-met : goal.visit-returns-then-not-branch-clause-met
+visit-returns-then-not-branch-clause-met g t c = λ t' e.
     let x = c.args.settings.now in let s = c.args.stack.now in let name = c.args.name in
-    let own = noted_visit x.excludes x.rules t' s name (joined s.place name) in
-    come_all c.args.notes.now c.enter_entry.new.notes own [] refl
-    (subst (λ (b : Bool). NotesCome c.args.notes.now own c.enter_entry.new.notes (cond b (noted_top x.excludes x.rules t' c.enter_entry.new.stack) [])) c.if-not-branch.true
-    (c.in_ok-enter_entry.ensures.noted t' e))
+    subst
+    (λ (b : Bool). Meets c.args.notes.now (met_visit x.excludes x.rules t' s name (joined s.place name)) c.enter_entry.new.notes (cond b (met_top x.excludes x.rules t' c.enter_entry.new.stack) []))
+    c.if-not-branch.true (c.in_ok-enter_entry.ensures.met t' e)
 
-pub visit-returns-in-Some-clause-noted : goal.visit-returns-in-Some-clause-noted
-visit-returns-in-Some-clause-noted g t c = λ t' e.
+pub visit-returns-in-Some-clause-met : goal.visit-returns-in-Some-clause-met
+visit-returns-in-Some-clause-met g t c = λ t' e.
     let x = c.args.settings.now in let s = c.args.stack.now in let u = c.enter_entry.new.stack in let name = c.args.name in
     let enters = c.in_ok-enter_entry.ensures.entered c.if-not-branch.false in
-    let own = noted_visit x.excludes x.rules t' s name (joined s.place name) in
+    let own = met_visit x.excludes x.rules t' s name (joined s.place name) in
     let n = c.args.notes.now in let m = c.enter_entry.new.notes in
-    let come =
-    subst (λ (b : Bool). NotesCome n own m (cond b (noted_top x.excludes x.rules t' u) [])) c.if-not-branch.false
-    (c.in_ok-enter_entry.ensures.noted t' e) in
+    let met =
+    subst (λ (b : Bool). Meets n own m (cond b (met_top x.excludes x.rules t' u) [])) c.if-not-branch.false (c.in_ok-enter_entry.ensures.met t' e) in
     let explored =
-    subst (λ (o : Option KeptFile). ExploreNotes x.excludes x.rules t' u c.explore.new.stack m c.explore.new.notes o) c.in-Some.is
-    (c.in_ok-file.ensures.noted t' (c.enter_entry.ensures.folders.same ∙ e)) in
-    come_more n m own (noted_top x.excludes x.rules t' u) (noted_stack x.excludes x.rules t' s) come
-    ∙ ap (λ (q : List Noted). said_in m ++ q) (sym (notes_entered x.excludes x.rules t' s u (under s.context name) name (joined s.place name) refl enters)) ∙ explored
+    subst (λ (o : Option KeptFile). ExploreMeets x.excludes x.rules t' u c.explore.new.stack m c.explore.new.notes o) c.in-Some.is
+    (c.in_ok-file.ensures.met t' (c.enter_entry.ensures.folders.same ∙ e)) in
+    met_to n m (own ++ met_stack x.excludes x.rules t' s) _ (met_stack x.excludes x.rules t' u)
+    (sym (stack_entered x.excludes x.rules t' s u (under s.context name) name (joined s.place name) refl enters))
+    (met_more n m own (met_top x.excludes x.rules t' u) (met_stack x.excludes x.rules t' s) met)
+    ∙ explored
 
-pub visit-returns-in-None-clause-noted : goal.visit-returns-in-None-clause-noted
-visit-returns-in-None-clause-noted g t c = λ t' e.
+pub visit-returns-in-None-clause-met : goal.visit-returns-in-None-clause-met
+visit-returns-in-None-clause-met g t c = λ t' e.
     let x = c.args.settings.now in let s = c.args.stack.now in let u = c.enter_entry.new.stack in let name = c.args.name in
-    let own = noted_visit x.excludes x.rules t' s name (joined s.place name) in
+    let own = met_visit x.excludes x.rules t' s name (joined s.place name) in
     let n = c.args.notes.now in let m = c.enter_entry.new.notes in
-    let come =
-    subst (λ (b : Bool). NotesCome n own m (cond b (noted_top x.excludes x.rules t' u) [])) c.if-not-branch.false
-    (c.in_ok-enter_entry.ensures.noted t' e) in
+    let met =
+    subst (λ (b : Bool). Meets n own m (cond b (met_top x.excludes x.rules t' u) [])) c.if-not-branch.false (c.in_ok-enter_entry.ensures.met t' e) in
     let explored =
-    subst (λ (o : Option KeptFile). ExploreNotes x.excludes x.rules t' u c.explore.new.stack m c.explore.new.notes o) c.in-None.is
-    (c.in_ok-file.ensures.noted t' (c.enter_entry.ensures.folders.same ∙ e)) in
-    explored ∙ sym come
+    subst (λ (o : Option KeptFile). ExploreMeets x.excludes x.rules t' u c.explore.new.stack m c.explore.new.notes o) c.in-None.is
+    (c.in_ok-file.ensures.met t' (c.enter_entry.ensures.folders.same ∙ e)) in
+    met ∙ explored
 
-pub explore-returns-in-Found-clause-noted : goal.explore-returns-in-Found-clause-noted
-explore-returns-in-Found-clause-noted g t c = λ t' e.
+pub explore-returns-in-Found-clause-met : goal.explore-returns-in-Found-clause-met
+explore-returns-in-Found-clause-met g t c = λ t' e.
     let inv = c.loop-file.invariant in let x = c.args.settings.now in let s = c.loop-file.stack in
     let found =
-    subst (λ (o : Step). StepNotes x.excludes x.rules t' s c.meet_next.new.stack c.loop-file.notes c.meet_next.new.notes o) c.in-Found.is
-    (c.in_ok-file.ensures.noted t' (inv.same ∙ e)) in
-    come_in_stack x.excludes x.rules t' c.args.stack.now s c.args.notes.now c.loop-file.notes inv.stays (inv.noted t' e) ∙ found
+    subst (λ (o : Step). StepMeets x.excludes x.rules t' s c.meet_next.new.stack c.loop-file.notes c.meet_next.new.notes o) c.in-Found.is
+    (c.in_ok-file.ensures.met t' (inv.same ∙ e)) in
+    meets_in_stack x.excludes x.rules t' c.args.stack.now s c.args.notes.now c.loop-file.notes inv.stays (inv.met t' e) ∙ found
 
-pub explore-returns-in-Ended-clause-noted : goal.explore-returns-in-Ended-clause-noted
-explore-returns-in-Ended-clause-noted g t c = λ t' e.
+pub explore-returns-in-Ended-clause-met : goal.explore-returns-in-Ended-clause-met
+explore-returns-in-Ended-clause-met g t c = λ t' e.
     let inv = c.loop-file.invariant in let x = c.args.settings.now in
     let ended =
-    subst (λ (o : Step). StepNotes x.excludes x.rules t' c.loop-file.stack c.meet_next.new.stack c.loop-file.notes c.meet_next.new.notes o) c.in-Ended.is
-    (c.in_ok-file.ensures.noted t' (inv.same ∙ e)) in
-    ended ∙ sym (inv.noted t' e)
+    subst (λ (o : Step). StepMeets x.excludes x.rules t' c.loop-file.stack c.meet_next.new.stack c.loop-file.notes c.meet_next.new.notes o) c.in-Ended.is
+    (c.in_ok-file.ensures.met t' (inv.same ∙ e)) in
+    inv.met t' e ∙ ended

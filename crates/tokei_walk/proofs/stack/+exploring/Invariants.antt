@@ -1,8 +1,8 @@
 use Rattle.std.proofs.Common.{◌≡◌, ◌+◌, ◌-◌, ◌*◌, ◌<◌, ◌≤◌, ◌^◌, length}
 use Rattle.tokei_folders.specs.Answers.{Told}
-use Rattle.tokei_walk.specs.Noted.{NotesCome, noted_top}
+use Rattle.tokei_walk.specs.MetSteps.{Meets}
+use Rattle.tokei_walk.specs.ToMeet.{met_top}
 use Rattle.tokei_walk.specs.Notes.{Grows}
-use Rattle.tokei_walk.specs.Descent.{of_top}
 use Rattle.tokei_walk.specs.Stacks.{Stays}
 use Rattle.tokei_walk.specs.Ranks.{stack_rank}
 use Rattle.tokei_walk.proofs.stack.+exploring.Given as goal
@@ -23,8 +23,8 @@ invariant-explore-loop-file g l = record {
   honest : g.F.Folders.memory_faults l.initial.folders < 2 ^ 64 - 1 → g.F.Folders.memory_faults l.folders ≡ g.F.Folders.memory_faults l.initial.folders;
   stays : Stays l.initial.stack l.stack;
   falls : stack_rank l.stack ≤ stack_rank l.initial.stack;
-  told : Told (g.F.Folders.tree l.initial.folders) (λ t. of_top l.settings.excludes l.settings.rules t l.initial.stack ≡ of_top l.settings.excludes l.settings.rules t l.stack);
-  noted : Told (g.F.Folders.tree l.initial.folders) (λ t. NotesCome l.initial.notes (noted_top l.settings.excludes l.settings.rules t l.initial.stack) l.notes (noted_top l.settings.excludes l.settings.rules t l.stack));
+  met : Told (g.F.Folders.tree l.initial.folders)
+      (λ t. Meets l.initial.notes (met_top l.settings.excludes l.settings.rules t l.initial.stack) l.notes (met_top l.settings.excludes l.settings.rules t l.stack));
 }
 
 abbrev pub decreases-explore-loop-file : goal.decreases-explore-loop-file

@@ -1,26 +1,16 @@
-use Rattle.std.proofs.Common.{◌≤◌, ◌∷◌, [], ℕ, List, length, sym, ap, ap₂, ◌∙◌, arith, refl}
+use Rattle.std.proofs.Common.{◌≤◌, [], ℕ, List, length, sym, ap, ap₂, ◌∙◌, arith, refl}
 use Rattle.tokei_folders.specs.Places.{joined}
 use Rattle.tokei_walk.specs.declared.levels.Context.{Context}
 use Rattle.tokei_walk.specs.Levels.{under}
-use Rattle.tokei_walk.proofs.StackSteps.{with_context, visit_dropped, visit_deep}
+use Rattle.tokei_walk.proofs.StackSteps.{with_context}
 use Rattle.tokei_walk.proofs.Growing.{grows_same, grows_by}
 use Rattle.tokei_walk.specs.declared.kept_file.NoteKind.TheVariants.{TooDeep}
-use Rattle.tokei_walk.specs.Noted.{said_by}
-use Rattle.tokei_walk.specs.NoteSteps.{noted_visit}
-use Rattle.tokei_walk.proofs.Noting.{says_more, says_none, says_what}
-use Rattle.tokei_walk.proofs.NoteSteps.{visit_deep as notes_deep, visit_dropped as notes_dropped}
+use Rattle.tokei_walk.specs.Met.{as_met, met_note}
+use Rattle.tokei_walk.specs.MetSteps.{met_visit}
+use Rattle.tokei_walk.proofs.Meeting.{met_said, met_same}
+use Rattle.tokei_walk.proofs.MetSteps.{visit_deep, visit_dropped}
+use Rattle.tokei_walk.proofs.Noting.{says_more}
 use Rattle.tokei_walk.proofs.stack.push_folder_name.Goals as goal
-
-pub returns-then-dropped-clause-passed : goal.returns-then-dropped-clause-passed
-returns-then-dropped-clause-passed c = λ q t.
-    let x = c.args.settings.now in let s = c.args.stack.now in
-    visit_dropped x.excludes x.rules t s c.args.name (joined s.place c.args.name) (sym c.in_ok-dropped.ensures.dropped ∙ c.if-dropped.true)
-
-pub returns-then-len-ge-MAX_DEPTH-clause-passed : goal.returns-then-len-ge-MAX_DEPTH-clause-passed
-returns-then-len-ge-MAX_DEPTH-clause-passed c = λ q t.
-    let x = c.args.settings.now in let s = c.args.stack.now in
-    let deep : 256 ≤ length s.holders = omega (arith, c.len.ensures) in
-    visit_deep x.excludes x.rules t s c.args.name (joined s.place c.args.name) deep
 
 pub returns-clause-place : goal.returns-clause-place
 returns-clause-place c =
@@ -64,22 +54,21 @@ returns-then-len-ge-MAX_DEPTH-clause-same c = λ q. ap (with_context c.args.stac
 pub returns-in_err-push-clause-notes : goal.returns-in_err-push-clause-notes
 returns-in_err-push-clause-notes c = grows_same _ _ c.in_err-push.ensures.err
 
-pub returns-then-dropped-clause-noted : goal.returns-then-dropped-clause-noted
-returns-then-dropped-clause-noted c = λ q t.
-    let x = c.args.settings.now in let s = c.args.stack.now in let name = c.args.name in
-    says_what _ _ [] (noted_visit x.excludes x.rules t s name (joined s.place name))
-    (sym (notes_dropped x.excludes x.rules t s name (joined s.place name) (sym c.in_ok-dropped.ensures.dropped ∙ c.if-dropped.true)))
-    (says_none _ _ refl)
+pub returns-clause-quiet : goal.returns-clause-quiet
+returns-clause-quiet c = refl
 
-pub returns-then-len-ge-MAX_DEPTH-clause-noted : goal.returns-then-len-ge-MAX_DEPTH-clause-noted
-returns-then-len-ge-MAX_DEPTH-clause-noted c = λ q t.
+pub returns-then-dropped-clause-met : goal.returns-then-dropped-clause-met
+returns-then-dropped-clause-met c = λ q t.
+    let x = c.args.settings.now in let s = c.args.stack.now in
+    met_same _ _ _ [] refl (visit_dropped x.excludes x.rules t s c.args.name (joined s.place c.args.name) (sym c.in_ok-dropped.ensures.dropped ∙ c.if-dropped.true))
+
+pub returns-then-len-ge-MAX_DEPTH-clause-met : goal.returns-then-len-ge-MAX_DEPTH-clause-met
+unfolding as_met
+returns-then-len-ge-MAX_DEPTH-clause-met c = λ q t.
     let x = c.args.settings.now in let s = c.args.stack.now in let name = c.args.name in
     let deep : 256 ≤ length s.holders = omega (arith, c.len.ensures) in
     let place = c.in_ok-place.ensures.place ∙ ap₂ (λ (p n : List ℕ). joined p n) c.as_str.ensures (c.as_str-2.ensures ∙ c.in_ok-dropped.ensures.name) in
-    says_what _ _ _ (noted_visit x.excludes x.rules t s name (joined s.place name))
-    (ap (λ (p : List ℕ). said_by (record { kind = TooDeep; place = p }) ∷ []) place
-    ∙ sym (notes_deep x.excludes x.rules t s name (joined s.place name) (sym c.in_ok-dropped.ensures.dropped ∙ c.if-dropped.false) deep))
+    met_said _ _ _ (met_visit x.excludes x.rules t s name (joined s.place name))
+    (visit_deep x.excludes x.rules t s name (joined s.place name) (sym c.in_ok-dropped.ensures.dropped ∙ c.if-dropped.false) deep
+    ∙ ap (λ (p : List ℕ). met_note TooDeep p) (sym place))
     (says_more _ _ _ c.in_ok-push.ensures.ok)
-
-pub returns-clause-quiet : goal.returns-clause-quiet
-returns-clause-quiet c = refl

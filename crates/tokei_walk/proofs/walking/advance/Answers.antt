@@ -1,18 +1,15 @@
-use Rattle.std.proofs.Common.{◌<◌, Option, OnSome, length, ap, ◌∙◌, subst, arith, refl, List, ◌++◌, reverse}
+use Rattle.std.proofs.Common.{◌<◌, Option, OnSome, length, ap, ◌∙◌, subst, arith, refl}
 use Rattle.tokei_walk.specs.declared.kept_file.KeptFile.{KeptFile}
 use Rattle.tokei_walk.specs.declared.stack.Step.{Step}
 use Rattle.tokei_walk.specs.Ranks.{stack_rank}
-use Rattle.tokei_walk.specs.Stacks.{NoneStays, ExploreTells}
-use Rattle.tokei_walk.specs.Turns.{TurnFalls, TurnTells}
-use Rattle.tokei_walk.specs.Walks.{of_all, of_roots}
+use Rattle.tokei_walk.specs.MetSteps.{ExploreMeets, Meets, file_of, with_found}
+use Rattle.tokei_walk.specs.ToMeet.{met_all}
+use Rattle.tokei_walk.specs.Stacks.{NoneStays}
+use Rattle.tokei_walk.specs.Turns.{TurnFalls}
 use Rattle.tokei_walk.proofs.Growing.{grows_on, grows_same}
 use Rattle.tokei_walk.proofs.Ranking.{explored_rank, all_falls, all_stays}
-use Rattle.tokei_walk.proofs.RootSteps.{all_explored}
+use Rattle.tokei_walk.proofs.MetRoots.{all_explored, all_found}
 use Rattle.tokei_walk.proofs.Lasting.{stay_on, refused}
-use Rattle.tokei_walk.specs.Noted.{noted_in, noted_stack}
-use Rattle.tokei_walk.specs.NoteSteps.{ExploreNotes}
-use Rattle.tokei_walk.proofs.NoteSteps.{come_more}
-use Rattle.tokei_walk.proofs.NoteRoots.{all_explored_notes}
 use Rattle.tokei_walk.proofs.walking.advance.Goals as goal
 
 pub go_on-requires : goal.go_on-requires
@@ -35,15 +32,12 @@ loop-file-preserved g c =
       falls = omega (arith, all_stays s v roots (explored_rank s v stays.0 stays.1), falls.0, inv.falls);
       same = c.go_on.ensures.folders.same ∙ c.explore.ensures.folders.same ∙ inv.same;
       honest = stay_on g.F.Folders.memory_faults _ _ _ inv.honest (stay_on g.F.Folders.memory_faults _ _ _ c.in_ok-file.ensures.folders.honest c.in_ok-file-2.ensures.folders.honest);
-      told = λ t e.
-          let top = subst (λ (o : Option KeptFile). ExploreTells x.excludes x.rules t s v o) c.in-None.is (c.in_ok-file.ensures.told t (inv.same ∙ e)) in
+      met = λ t e.
+          let top = subst (λ (o : Option KeptFile). ExploreMeets x.excludes x.rules t s v c.loop-file.notes c.explore.new.notes o) c.in-None.is (c.in_ok-file.ensures.met t (inv.same ∙ e)) in
           let turn =
-          subst (λ (o : Step). TurnTells (of_all x.excludes x.rules t v roots) (of_all x.excludes x.rules t w front) o) c.in-Passed.is
-          (c.in_ok-file-2.ensures.told t (c.explore.ensures.folders.same ∙ inv.same ∙ e)) in
-          inv.told t e ∙ all_explored x.excludes x.rules t s v roots stays top ∙ turn;
-      noted = λ t e.
-          let top = subst (λ (o : Option KeptFile). ExploreNotes x.excludes x.rules t s v c.loop-file.notes c.explore.new.notes o) c.in-None.is (c.in_ok-file.ensures.noted t (inv.same ∙ e)) in
-          inv.noted t e ∙ all_explored_notes x.excludes x.rules t s v roots _ _ stays top ∙ c.in_ok-file-2.ensures.noted t (c.explore.ensures.folders.same ∙ inv.same ∙ e);
+          subst (λ (o : Step). Meets c.explore.new.notes (met_all x.excludes x.rules t v roots) c.go_on.new.notes (with_found (file_of o) (met_all x.excludes x.rules t w front))) c.in-Passed.is
+          (c.in_ok-file-2.ensures.met t (c.explore.ensures.folders.same ∙ inv.same ∙ e)) in
+          inv.met t e ∙ all_explored x.excludes x.rules t s v roots _ _ stays top ∙ turn;
     }
 
 pub returns-in-Some-clause-fewer : goal.returns-in-Some-clause-fewer
@@ -59,29 +53,9 @@ returns-in-Found-clause-fewer g c =
     let falls = subst (λ (o : Step). TurnFalls v c.loop-file.roots c.go_on.new.stack c.go_on.new.roots o) c.in-Found.is c.in_ok-file-2.ensures.falls in
     omega (arith, all_stays s v c.loop-file.roots (explored_rank s v stays.0 stays.1), falls, c.loop-file.invariant.falls)
 
-pub returns-in-Found-clause-told : goal.returns-in-Found-clause-told
-returns-in-Found-clause-told g c = λ t e.
-    let inv = c.loop-file.invariant in let x = c.args.settings.now in let s = c.loop-file.stack in let v = c.explore.new.stack in let roots = c.loop-file.roots in
-    let stays = subst (λ (o : Option KeptFile). NoneStays s v o) c.in-None.is c.in_ok-file.ensures.stays in
-    let top = subst (λ (o : Option KeptFile). ExploreTells x.excludes x.rules t s v o) c.in-None.is (c.in_ok-file.ensures.told t (inv.same ∙ e)) in
-    let turn =
-    subst (λ (o : Step). TurnTells (of_all x.excludes x.rules t v roots) (of_all x.excludes x.rules t c.go_on.new.stack c.go_on.new.roots) o) c.in-Found.is
-    (c.in_ok-file-2.ensures.told t (c.explore.ensures.folders.same ∙ inv.same ∙ e)) in
-    inv.told t e ∙ all_explored x.excludes x.rules t s v roots stays top ∙ turn
-
 pub returns-in-Ended-clause-ended : goal.returns-in-Ended-clause-ended
 returns-in-Ended-clause-ended g c = λ q.
     subst (λ (o : Step). TurnFalls c.explore.new.stack c.loop-file.roots c.go_on.new.stack c.go_on.new.roots o) c.in-Ended.is c.in_ok-file-2.ensures.falls
-
-pub returns-in-Ended-clause-told : goal.returns-in-Ended-clause-told
-returns-in-Ended-clause-told g c = λ t e.
-    let inv = c.loop-file.invariant in let x = c.args.settings.now in let s = c.loop-file.stack in let v = c.explore.new.stack in let roots = c.loop-file.roots in
-    let stays = subst (λ (o : Option KeptFile). NoneStays s v o) c.in-None.is c.in_ok-file.ensures.stays in
-    let top = subst (λ (o : Option KeptFile). ExploreTells x.excludes x.rules t s v o) c.in-None.is (c.in_ok-file.ensures.told t (inv.same ∙ e)) in
-    let turn =
-    subst (λ (o : Step). TurnTells (of_all x.excludes x.rules t v roots) (of_all x.excludes x.rules t c.go_on.new.stack c.go_on.new.roots) o) c.in-Ended.is
-    (c.in_ok-file-2.ensures.told t (c.explore.ensures.folders.same ∙ inv.same ∙ e)) in
-    inv.told t e ∙ all_explored x.excludes x.rules t s v roots stays top ∙ turn
 
 pub returns-in_err-file-clause-notes : goal.returns-in_err-file-clause-notes
 returns-in_err-file-clause-notes g c = grows_on _ _ _ c.loop-file.invariant.notes c.explore.ensures.notes
@@ -104,8 +78,7 @@ loop-file-init g c = record {
   falls = omega arith;
   same = refl;
   honest = λ h. refl;
-  told = λ t e. refl;
-  noted = λ t e. refl;
+  met = λ t e. refl;
 }
 
 pub returns-in_err-file-clause-folders : goal.returns-in_err-file-clause-folders
@@ -135,29 +108,32 @@ returns-in-Ended-clause-folders g c =
       honest = stay_on g.F.Folders.memory_faults _ _ _ inv.honest (stay_on g.F.Folders.memory_faults _ _ _ c.in_ok-file.ensures.folders.honest c.in_ok-file-2.ensures.folders.honest);
     }
 
-pub returns-in-Some-clause-told : goal.returns-in-Some-clause-told
-returns-in-Some-clause-told g c = λ t e.
+pub returns-in-Some-clause-met : goal.returns-in-Some-clause-met
+returns-in-Some-clause-met g c = λ t e.
     let inv = c.loop-file.invariant in let x = c.args.settings.now in let s = c.loop-file.stack in let v = c.explore.new.stack in
-    let explored = subst (λ (o : Option KeptFile). ExploreTells x.excludes x.rules t s v o) c.in-Some.is (c.in_ok-file.ensures.told t (inv.same ∙ e)) in
-    inv.told t e ∙ ap (λ (q : List KeptFile). q ++ of_roots x.excludes x.rules t c.loop-file.roots) explored
+    let explored = subst (λ (o : Option KeptFile). ExploreMeets x.excludes x.rules t s v c.loop-file.notes c.explore.new.notes o) c.in-Some.is (c.in_ok-file.ensures.met t (inv.same ∙ e)) in
+    inv.met t e ∙ all_found x.excludes x.rules t s v c.loop-file.roots _ _ c.in-Some.file explored
 
-pub returns-in-Some-clause-noted : goal.returns-in-Some-clause-noted
-returns-in-Some-clause-noted g c = λ t e.
-    let inv = c.loop-file.invariant in let x = c.args.settings.now in let s = c.loop-file.stack in let v = c.explore.new.stack in
-    let explored = subst (λ (o : Option KeptFile). ExploreNotes x.excludes x.rules t s v c.loop-file.notes c.explore.new.notes o) c.in-Some.is (c.in_ok-file.ensures.noted t (inv.same ∙ e)) in
-    inv.noted t e
-    ∙ come_more _ _ (noted_stack x.excludes x.rules t s) (noted_stack x.excludes x.rules t v) (noted_in x.excludes x.rules t (reverse c.loop-file.roots)) explored
-
-pub returns-in-Found-clause-noted : goal.returns-in-Found-clause-noted
-returns-in-Found-clause-noted g c = λ t e.
-    let inv = c.loop-file.invariant in let x = c.args.settings.now in let s = c.loop-file.stack in let v = c.explore.new.stack in
+pub returns-in-Found-clause-met : goal.returns-in-Found-clause-met
+returns-in-Found-clause-met g c = λ t e.
+    let inv = c.loop-file.invariant in let x = c.args.settings.now in let s = c.loop-file.stack in let v = c.explore.new.stack in let roots = c.loop-file.roots in
     let stays = subst (λ (o : Option KeptFile). NoneStays s v o) c.in-None.is c.in_ok-file.ensures.stays in
-    let top = subst (λ (o : Option KeptFile). ExploreNotes x.excludes x.rules t s v c.loop-file.notes c.explore.new.notes o) c.in-None.is (c.in_ok-file.ensures.noted t (inv.same ∙ e)) in
-    inv.noted t e ∙ all_explored_notes x.excludes x.rules t s v c.loop-file.roots _ _ stays top ∙ c.in_ok-file-2.ensures.noted t (c.explore.ensures.folders.same ∙ inv.same ∙ e)
+    let top = subst (λ (o : Option KeptFile). ExploreMeets x.excludes x.rules t s v c.loop-file.notes c.explore.new.notes o) c.in-None.is (c.in_ok-file.ensures.met t (inv.same ∙ e)) in
+    let turn =
+    subst
+    (λ (o : Step). Meets c.explore.new.notes (met_all x.excludes x.rules t v roots) c.go_on.new.notes (with_found (file_of o) (met_all x.excludes x.rules t c.go_on.new.stack c.go_on.new.roots)))
+    c.in-Found.is
+    (c.in_ok-file-2.ensures.met t (c.explore.ensures.folders.same ∙ inv.same ∙ e)) in
+    inv.met t e ∙ all_explored x.excludes x.rules t s v roots _ _ stays top ∙ turn
 
-pub returns-in-Ended-clause-noted : goal.returns-in-Ended-clause-noted
-returns-in-Ended-clause-noted g c = λ t e.
-    let inv = c.loop-file.invariant in let x = c.args.settings.now in let s = c.loop-file.stack in let v = c.explore.new.stack in
+pub returns-in-Ended-clause-met : goal.returns-in-Ended-clause-met
+returns-in-Ended-clause-met g c = λ t e.
+    let inv = c.loop-file.invariant in let x = c.args.settings.now in let s = c.loop-file.stack in let v = c.explore.new.stack in let roots = c.loop-file.roots in
     let stays = subst (λ (o : Option KeptFile). NoneStays s v o) c.in-None.is c.in_ok-file.ensures.stays in
-    let top = subst (λ (o : Option KeptFile). ExploreNotes x.excludes x.rules t s v c.loop-file.notes c.explore.new.notes o) c.in-None.is (c.in_ok-file.ensures.noted t (inv.same ∙ e)) in
-    inv.noted t e ∙ all_explored_notes x.excludes x.rules t s v c.loop-file.roots _ _ stays top ∙ c.in_ok-file-2.ensures.noted t (c.explore.ensures.folders.same ∙ inv.same ∙ e)
+    let top = subst (λ (o : Option KeptFile). ExploreMeets x.excludes x.rules t s v c.loop-file.notes c.explore.new.notes o) c.in-None.is (c.in_ok-file.ensures.met t (inv.same ∙ e)) in
+    let turn =
+    subst
+    (λ (o : Step). Meets c.explore.new.notes (met_all x.excludes x.rules t v roots) c.go_on.new.notes (with_found (file_of o) (met_all x.excludes x.rules t c.go_on.new.stack c.go_on.new.roots)))
+    c.in-Ended.is
+    (c.in_ok-file-2.ensures.met t (c.explore.ensures.folders.same ∙ inv.same ∙ e)) in
+    inv.met t e ∙ all_explored x.excludes x.rules t s v roots _ _ stays top ∙ turn

@@ -1,9 +1,9 @@
 use Rattle.std.proofs.Common.{◌≡◌, ◌+◌, ◌<◌, ◌≤◌, ◌-◌, ◌^◌, length}
 use Rattle.tokei_folders.specs.Answers.{Told}
-use Rattle.tokei_walk.specs.Noted.{NotesCome, noted_all}
+use Rattle.tokei_walk.specs.MetSteps.{Meets}
+use Rattle.tokei_walk.specs.ToMeet.{met_all}
 use Rattle.tokei_walk.specs.Notes.{Grows}
 use Rattle.tokei_walk.specs.Ranks.{all_rank}
-use Rattle.tokei_walk.specs.Walks.{of_all}
 use Rattle.tokei_walk.proofs.walking.advance.Given as goal
 
 abbrev pub invariant-loop-file : goal.invariant-loop-file
@@ -12,8 +12,9 @@ invariant-loop-file g l = record {
   falls : all_rank l.stack l.roots ≤ all_rank l.initial.stack l.initial.roots;
   same : g.F.Folders.tree l.folders ≡ g.F.Folders.tree l.initial.folders;
   honest : g.F.Folders.memory_faults l.initial.folders < 2 ^ 64 - 1 → g.F.Folders.memory_faults l.folders ≡ g.F.Folders.memory_faults l.initial.folders;
-  told : Told (g.F.Folders.tree l.initial.folders) (λ t. of_all l.settings.excludes l.settings.rules t l.initial.stack l.initial.roots ≡ of_all l.settings.excludes l.settings.rules t l.stack l.roots);
-  noted : Told (g.F.Folders.tree l.initial.folders) (λ t. NotesCome l.initial.notes (noted_all l.settings.excludes l.settings.rules t l.initial.stack l.initial.roots) l.notes (noted_all l.settings.excludes l.settings.rules t l.stack l.roots));
+  met : Told (g.F.Folders.tree l.initial.folders)
+      (λ t. Meets l.initial.notes (met_all l.settings.excludes l.settings.rules t l.initial.stack l.initial.roots) l.notes
+      (met_all l.settings.excludes l.settings.rules t l.stack l.roots));
 }
 
 abbrev pub decreases-loop-file : goal.decreases-loop-file

@@ -4,7 +4,8 @@ use Rattle.tokei_count.specs.Seen.{docs_of}
 use Rattle.tokei_languages.specs.Seen.{languages_of}
 use Rattle.tokei_walk.specs.Kept.{kept_in}
 use Rattle.tokei_walk.specs.declared.kept_file.KeptFile.{KeptFile}
-use Rattle.tokei_walk.specs.Noted.{Noted, noted_in}
+use Rattle.tokei_walk.specs.Met.{noted_in}
+use Rattle.tokei_walk.specs.Noted.{Noted}
 use Rattle.tokei_walk.specs.Notes.{notes_of_excludes}
 use Rattle.tokei_walk.specs.Walks.{excludes_of, texts_of}
 use Rattle.tokei_files.specs.Configs.{rules_of, counting_by, kept_by, noted_by}

@@ -1,11 +1,11 @@
-use Rattle.std.proofs.Common.{◌++◌, List, refl, sym, ap, ◌∙◌}
+use Rattle.std.proofs.Common.{Ok, refl, sym, ap, ◌∙◌}
+use Rattle.tokei_walk.specs.Met.{files_in}
 use Rattle.tokei_walk.specs.Notes.{notes_of}
 use Rattle.tokei_walk.specs.Ranks.{rank}
-use Rattle.tokei_walk.specs.Walks.{has_failed}
+use Rattle.tokei_walk.specs.Walks.{has_failed, met_to_come, noted_to_come, to_come}
+use Rattle.tokei_walk.proofs.Meeting.{advances, notes_come}
+use Rattle.tokei_walk.proofs.MetRoots.{no_roots, to_come_left, walk_meets}
 use Rattle.tokei_walk.proofs.Over.{over_gives, not_failed, spent_over}
-use Rattle.tokei_walk.proofs.RootSteps.{to_come_left, all_ended, advances_by}
-use Rattle.tokei_walk.specs.Noted.{Noted, said_in}
-use Rattle.tokei_walk.proofs.NoteRoots.{notes_left}
 use Rattle.tokei_walk.proofs.walking.Walk.next.Goals as goal
 
 pub returns-then-is_over-clause-told : goal.returns-then-is_over-clause-told
@@ -13,18 +13,6 @@ returns-then-is_over-clause-told g c = λ t e. over_gives t c.args.self.now (sym
 
 pub returns-then-is_over-clause-ended : goal.returns-then-is_over-clause-ended
 returns-then-is_over-clause-ended g c = λ q t. over_gives t c.args.self.now (sym c.is_over.ensures ∙ c.if-is_over.true)
-
-pub returns-clause-told : goal.returns-clause-told
-returns-clause-told g c = λ t e.
-    advances_by _ _ _ _ c.in_ok-found.found
-    (to_come_left t c.args.self.now
-    (not_failed c.args.self.now (sym c.is_over.ensures ∙ c.if-is_over.false)))
-    (to_come_left t _ refl) (c.in_ok-found.ensures.told t e)
-
-pub returns-clause-ended : goal.returns-clause-ended
-returns-clause-ended g c = λ q t.
-    let ends = c.in_ok-found.ensures.ended q in
-    to_come_left t _ refl ∙ all_ended _ _ t _ _ ends.0 ends.1 ends.2
 
 pub returns-clause-over : goal.returns-clause-over
 returns-clause-over g c = λ q. let ends = c.in_ok-found.ensures.ended q in spent_over _ ends.0 ends.1 ends.2
@@ -53,9 +41,32 @@ pub returns-in_err-found-clause-failed : goal.returns-in_err-found-clause-failed
 unfolding has_failed
 returns-in_err-found-clause-failed g c = λ h. let live = not_failed c.args.self.now (sym c.is_over.ensures ∙ c.if-is_over.false) in absurd (cc)
 
-pub returns-clause-noted : goal.returns-clause-noted
+pub returns-then-is_over-clause-met : goal.returns-then-is_over-clause-met
+returns-then-is_over-clause-met g c = λ t e. refl
+
+pub returns-clause-met : goal.returns-clause-met
 unfolding notes_of
+returns-clause-met g c = λ t e.
+    let w = c.args.self.now in
+    walk_meets t w _ _ _ c.in_ok-found.found (not_failed w (sym c.is_over.ensures ∙ c.if-is_over.false)) refl (c.in_ok-found.ensures.met t e)
+
+pub returns-clause-told : goal.returns-clause-told
+unfolding to_come
+returns-clause-told g c = λ t e.
+    let w = c.args.self.now in
+    advances _ _ c.in_ok-found.found (met_to_come t w) _
+    (returns-clause-met g c t e)
+    (λ q. let ends = c.in_ok-found.ensures.ended (ap Ok q) in to_come_left t _ refl ∙ no_roots _ _ t _ _ ends.0 ends.1 ends.2)
+
+pub returns-clause-noted : goal.returns-clause-noted
+unfolding notes_of noted_to_come
 returns-clause-noted g c = λ t e.
     let w = c.args.self.now in
-    ap (λ (q : List Noted). said_in w.notes ++ q) (notes_left t w (not_failed w (sym c.is_over.ensures ∙ c.if-is_over.false)))
-    ∙ c.in_ok-found.ensures.noted t e ∙ ap (λ (q : List Noted). said_in c.advance.new.notes ++ q) (sym (notes_left t _ refl))
+    notes_come _ _ c.in_ok-found.found (met_to_come t w) _
+    (walk_meets t w _ _ _ c.in_ok-found.found (not_failed w (sym c.is_over.ensures ∙ c.if-is_over.false)) refl (c.in_ok-found.ensures.met t e))
+
+pub returns-clause-ended : goal.returns-clause-ended
+unfolding to_come files_in
+returns-clause-ended g c = λ q t.
+    let ends = c.in_ok-found.ensures.ended q in
+    ap files_in (to_come_left t _ refl ∙ no_roots _ _ t _ _ ends.0 ends.1 ends.2)
