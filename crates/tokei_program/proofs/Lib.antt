@@ -1,3 +1,4 @@
 pub mod Asking
 pub mod Jobs
 pub mod Leaving
+pub mod Shaping

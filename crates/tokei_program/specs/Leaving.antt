@@ -1,5 +1,5 @@
--- What a program that has failed leaves on its first writer, where that had no fault: what it held, all
--- of what was asked for, or the first rows of a stream.
+-- What a program that has failed leaves on its first writer, where that had no fault: what it held,
+-- all of what was asked for, or the first rows of a stream.
 use Rattle.std.specs.Prelude.{◌≡◌, ◌<◌, ℕ, List, Option, Some, Ok, ◌⊎◌}
 use Rattle.tokei.specs.declared.job.Job.{Job}
 use Rattle.tokei.specs.Refused.{IsBegun}
@@ -16,8 +16,8 @@ use Rattle.tokei_table.specs.Row.{Row}
 abbrev pub HasNoFault : {W : Type 0} → (W → ℕ) → W → W → Type 0
 HasNoFault faults old new = (faults old < 18446744073709551615) × (faults new ≡ faults old)
 
--- the run of a command line has written nothing of a document or a report, and of a stream nothing, or
--- its heading and the rows of the first files
+-- the run of a command line has written nothing of a document or a report, and of a stream nothing,
+-- or its heading and the rows of the first files
 pub record BeginsCounts (line : Cli) (env : Env) (tree : Tree)
     (input old new : Option (List ℕ)) : Type 0 where
   pub rows : List Row

@@ -5,5 +5,6 @@ pub mod Choices
 pub mod Columns
 pub mod Jobs
 pub mod Leaving
+pub mod Shapes
 pub mod Words
 pub mod Writing

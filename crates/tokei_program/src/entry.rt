@@ -2,6 +2,7 @@
 ghost use Rattle.std.specs.Prelude.{◌≡◌, ◌≢◌, ◌<◌, ◌≤◌, ◌⊎◌, [], IfErr, IfOk, Ok, OnErr, OnOk, Some, map, string_bytes};
 ghost use Rattle.tokei.specs.Output.{Outputs};
 ghost use Rattle.tokei.specs.Refused.{IsBegun};
+ghost use Rattle.tokei.specs.Shapes.{HasShape};
 ghost use Rattle.tokei_cli.specs.CommandLines.{excludes_of, inputs_of};
 ghost use Rattle.tokei_folders.specs.Answers.{Told};
 ghost use Rattle.tokei_program.specs.Choices.{Chooses};
@@ -12,6 +13,7 @@ ghost use Rattle.tokei_invocation.specs.Statuses.{status_of};
 ghost use Rattle.tokei_invocation.specs.Tables.{place_of_table, table_at};
 ghost use Rattle.tokei_program.specs.Jobs.{IsJob};
 ghost use Rattle.tokei_program.specs.Leaving.{HasNoFault, Leaves, LeavesAsked, LeavesCounts};
+ghost use Rattle.tokei_program.specs.Shapes.{Answers, AnswersBy, CountsSome, ListsSome};
 ghost use Rattle.tokei_program.specs.Writing.{Writes, WritesAsked, WritesCounts, WritesList};
 ghost use Rattle.tokei_folders.specs.AsTheyWere.{SameTree, NoFault};
 ghost use Rattle.tokei_walk.specs.Walks.{texts_of};
@@ -39,6 +41,8 @@ fn write_prepared<F: Folders, W: Sink>(
     ensures same { SameTree F.tree folders.old folders.new }
     ensures told { Told (F.tree folders.old) (λ t. OnOk result (Outputs prepared.now.job.wanted
         table.now prepared.now.job t (W.contents out.old) (W.contents out.new))) }
+    ensures shaped { OnOk result (HasShape prepared.now.job.wanted table.now prepared.now.job
+        (W.contents out.old) (W.contents out.new)) }
     ensures beside { IfOk result (λ text.
         ShowsNotes AnyMet request.now.cli.now (string_bytes text)) }
     ensures noted { Told (F.tree folders.old) (λ t.
@@ -81,6 +85,8 @@ fn write_counts<F: Folders, S: Source, W: Sink>(
     ensures told { Told (F.tree folders.old) (λ t. OnOk result (WritesCounts
         request.now.cli.now request.now.env.now t (S.remaining input.old)
         (W.contents out.old) (W.contents out.new))) }
+    ensures shaped { OnOk result (CountsSome request.now.cli.now
+        (W.contents out.old) (W.contents out.new)) }
     ensures beside { IfOk result (λ text.
         ShowsNotes AnyMet request.now.cli.now (string_bytes text)) }
     ensures noted { Told (F.tree folders.old) (λ t. IfOk result (λ text.
@@ -110,6 +116,7 @@ fn write_list<F: Folders, W: Sink>(
     ensures same { SameTree F.tree folders.old folders.new }
     ensures told { Told (F.tree folders.old) (λ t. OnOk result (WritesList
         cli.now env.now t (W.contents out.old) (W.contents out.new))) }
+    ensures shaped { OnOk result (ListsSome (W.contents out.old) (W.contents out.new)) }
     ensures beside { IfOk result (λ text. string_bytes text ≡ []) }
     ensures fault { NoFault W.faults out.old out.new result }
     ensures left { OnErr result (HasNoFault W.faults out.old out.new
@@ -137,6 +144,8 @@ fn carry_out<F: Folders, S: Source, W: Sink>(
     ensures same { SameTree F.tree folders.old folders.new }
     ensures told { Told (F.tree folders.old) (λ t. OnOk result (WritesAsked
         cli.now env.now t (S.remaining input.old) (W.contents out.old) (W.contents out.new))) }
+    ensures shaped { OnOk result (AnswersBy cli.now.print_languages cli.now
+        (W.contents out.old) (W.contents out.new)) }
     ensures beside { IfOk result (λ text. ShowsAsked AnyMet cli.now (string_bytes text)) }
     ensures noted { Told (F.tree folders.old) (λ t. IfOk result (λ text.
         ShowsAsked (MetIn env.now t) cli.now (string_bytes text))) }
@@ -169,6 +178,8 @@ fn answer_words<F: Folders, S: Source, W: Sink>(
     ensures told { Told (F.tree folders.old) (λ t. OnOk result
         (Writes (map (λ w. w.now) words.now) env.now t (S.remaining input.old) (W.contents out.old)
         (W.contents out.new))) }
+    ensures shaped { OnOk result (Answers (map (λ w. w.now) words.now)
+        (W.contents out.old) (W.contents out.new)) }
     ensures beside { IfOk result (λ text. IsBeside AnyMet (map (λ w. w.now) words.now)
         (W.contents out.old) (W.contents out.new) (string_bytes text)) }
     ensures noted { Told (F.tree folders.old) (λ t. IfOk result (λ text.
@@ -198,14 +209,15 @@ fn answer_words<F: Folders, S: Source, W: Sink>(
 /// What is asked for goes to `out`, and what is to be said beside it to `err`.
 ///
 /// With status 0 `out` has gained, over a known tree, help, the version, or what the command line
-/// of the words asks for: the list of languages, or what `run` writes for its job; and `err` has
-/// gained nothing, or notes of what was passed over and of configuration files that count as empty,
-/// as many as the command line shows. A refused
-/// command line is seen before anything is read or written. Any other status than 1 says that
-/// neither writer had a fault. Where the status is 1 and `err` had no fault, one message stands in
-/// it; where `out` had none, it has over a known tree what it held, all of what was asked for, or the
-/// heading of a stream and the rows of the first files, and nothing else. Once a run has begun, the memory of its table isn't given back, since the process mostly
-/// ends next.
+/// of the words asks for: the list of languages, or what `run` writes for its job. Over other
+/// folders, as the system's, it has gained the list of some table's languages, or what a run writes
+/// for a job of that command line over some languages. `err` has gained nothing, or notes of what
+/// was passed over and of configuration files that count as empty, as many as the command line
+/// shows. A refused command line is seen before anything is read or written. Any other status than
+/// 1 says that neither writer had a fault. Where the status is 1 and `err` had no fault, one
+/// message stands in it; where `out` had none, it has over a known tree what it held, all of what
+/// was asked for, or the heading of a stream and the rows of the first files, and nothing else. Once
+/// a run has begun, the memory of its table isn't given back, since the process mostly ends next.
 pub fn program<F: Folders, S: Source, W: Sink, E: Sink>(
     alloc: Global,
     words: &[&str],
@@ -219,6 +231,8 @@ pub fn program<F: Folders, S: Source, W: Sink, E: Sink>(
     ensures written { Told (F.tree folders.old) (λ t. result ≡ 0
         → Writes (map (λ w. w.now) words.now) env.now t (S.remaining input.old) (W.contents out.old)
         (W.contents out.new)) }
+    ensures shaped { result ≡ 0 → Answers (map (λ w. w.now) words.now)
+        (W.contents out.old) (W.contents out.new) }
     ensures beside { result ≡ 0
         → SaysBeside AnyMet (map (λ w. w.now) words.now) (W.contents out.old) (W.contents out.new)
         (E.contents err.old) (E.contents err.new) }

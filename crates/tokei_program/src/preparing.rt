@@ -92,6 +92,9 @@ pub fn prepare<F: Folders, S: Source>(
     ensures same { SameTree F.tree folders.old folders.new }
     ensures excludes { IfOk result (λ p.
         texts_of p.job.ignored.items ≡ excludes_of request.now.cli.now) }
+    ensures members { IfOk result (λ p. IsJob request.now.cli.now p.job) }
+    ensures chosen { IfOk result (λ p. Chooses
+        request.now.cli.now p.job.wanted p.job.sort p.job.numbers) }
     ensures told { Told (F.tree folders.old) (λ t. IfOk result (λ p. IsJobOf
         table.now request.now.cli.now request.now.env.now t (S.remaining input.old) p.job)) }
     ensures flawed { Told (F.tree folders.old) (λ t. IfOk result (λ p.

@@ -1,4 +1,5 @@
 -- What was asked for is what the program writes.
+use Rattle.tokei_program.proofs.Shaping.{words_shaped}
 use Rattle.std.proofs.Common.{map}
 use Rattle.tokei_program.proofs.Asking.{beside_is, either_is}
 use Rattle.tokei_program.specs.Beside.{AnyMet, MetIn}
@@ -28,3 +29,8 @@ returns-in-Ok-clause-left g c = λ t told.
     words_left c.args.env.now t c.in-Ok.cli (g.S.Source.remaining c.args.input.now)
     (g.W.Sink.contents c.args.out.now) (g.W.Sink.contents c.carry_out.new.out) (HasNoFault g.W.Sink.faults c.args.out.now c.carry_out.new.out)
     (map (λ w. w.now) c.args.words.now) c.carry_out.result c.in-Ok.ensures.of_words (c.carry_out.ensures.left t told)
+
+pub returns-in-Ok-clause-shaped : goal.returns-in-Ok-clause-shaped
+returns-in-Ok-clause-shaped g c =
+    words_shaped c.in-Ok.cli (g.W.Sink.contents c.args.out.now) (g.W.Sink.contents c.carry_out.new.out)
+    (map (λ w. w.now) c.args.words.now) c.carry_out.result c.in-Ok.ensures.of_words c.carry_out.ensures.shaped

@@ -1,4 +1,5 @@
 -- The list or the counts are what was asked for.
+use Rattle.tokei_program.proofs.Shaping.{shaped_by_counts, shaped_by_list}
 use Rattle.tokei_program.proofs.Asking.{asked_by_list, asked_by_counts, beside_counts, beside_list}
 use Rattle.tokei_program.specs.Beside.{AnyMet, MetIn}
 use Rattle.tokei_program.specs.Leaving.{HasNoFault}
@@ -46,3 +47,11 @@ returns-else-cli-clause-left g c = λ t told.
     asked_left c.args.env.now t c.args.cli.now (g.S.Source.remaining c.args.input.now)
     (g.W.Sink.contents c.args.out.now) (g.W.Sink.contents c.write_counts.new.out) (HasNoFault g.W.Sink.faults c.args.out.now c.write_counts.new.out)
     c.write_counts.result c.requires.named c.if-cli.false (c.write_counts.ensures.left t told)
+
+pub returns-then-cli-clause-shaped : goal.returns-then-cli-clause-shaped
+returns-then-cli-clause-shaped g c =
+    shaped_by_list c.args.cli.now (g.W.Sink.contents c.args.out.now) (g.W.Sink.contents c.write_list.new.out) c.write_list.result c.if-cli.true c.write_list.ensures.shaped
+
+pub returns-else-cli-clause-shaped : goal.returns-else-cli-clause-shaped
+returns-else-cli-clause-shaped g c =
+    shaped_by_counts c.args.cli.now (g.W.Sink.contents c.args.out.now) (g.W.Sink.contents c.write_counts.new.out) c.write_counts.result c.if-cli.false c.write_counts.ensures.shaped

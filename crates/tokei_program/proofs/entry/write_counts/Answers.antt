@@ -1,4 +1,5 @@
 -- What is written is the output of the run that was prepared over the table.
+use Rattle.tokei_program.proofs.Shaping.{counts_shaped}
 use Rattle.std.proofs.Common.{refl, inl, ◌∙◌}
 use Rattle.tokei_program.proofs.Asking.{counts_written}
 use Rattle.tokei_program.specs.Leaving.{HasNoFault}
@@ -47,3 +48,9 @@ returns-clause-left g c = λ t told.
     (g.W.Sink.contents c.args.out.now) (g.W.Sink.contents c.write_prepared-said.new.out) (HasNoFault g.W.Sink.faults c.args.out.now c.write_prepared-said.new.out)
     c.in_ok-table.table c.in_ok-prepared.prepared.job c.write_prepared-said.result
     (c.in_ok-table.ensures.told t told) (c.in_ok-prepared.ensures.told t read) (c.write_prepared-said.ensures.left t (c.prepare.ensures.same ∙ read))
+
+pub returns-clause-shaped : goal.returns-clause-shaped
+returns-clause-shaped g c =
+    counts_shaped c.args.request.now.cli.now (g.W.Sink.contents c.args.out.now) (g.W.Sink.contents c.write_prepared-said.new.out)
+    c.in_ok-table.table c.in_ok-prepared.prepared.job c.write_prepared-said.result
+    c.in_ok-prepared.ensures.members c.in_ok-prepared.ensures.chosen c.write_prepared-said.ensures.shaped

@@ -1,7 +1,7 @@
 -- The run is that of the command line.
 use Rattle.std.proofs.Common.{◌∙◌}
 use Rattle.tokei_walk.specs.Walks.{texts_of}
-use Rattle.tokei_program.proofs.Jobs.{is_job_of}
+use Rattle.tokei_program.proofs.Jobs.{is_chosen, is_job_of}
 use Rattle.tokei_program.proofs.preparing.prepare.Goals as goal
 
 pub returns-clause-told : goal.returns-clause-told
@@ -27,3 +27,7 @@ returns-in_err-check_roots-clause-same g c = c.check_roots.ensures.same ∙ (c.e
 
 pub returns-in_err-earlier-clause-same : goal.returns-in_err-earlier-clause-same
 returns-in_err-earlier-clause-same g c = c.earlier.ensures.same ∙ c.configuration.ensures.same
+
+pub returns-clause-chosen : goal.returns-clause-chosen
+returns-clause-chosen g c =
+    is_chosen c.args.request.now.cli.now c.args.choices.wanted c.args.choices.sort c.args.choices.numbers c.in_ok-job.job c.in_ok-job.ensures.chosen c.requires.chosen
