@@ -1,9 +1,10 @@
 -- What the bits of a block's mask say of its bytes, one by one.
 use Rattle.std.proofs.Common.{◌≡◌, ℕ, ◌+◌, ◌-◌, ◌<◌, ◌≤◌, ◌^◌, Bool, true, false, not, ◌&&◌, ◌||◌, ◌==◌, cond, min, max, List, [], ◌∷◌, map, length, get_or, bit_and, bit_or, w64, inl, inr, refl, sym, ap, ap₂, ◌∙◌, arith, get_or-take, get_or-drop}
-use Rattle.std.proofs.lemmas.Nat.Bits.{bit_at_and, bit_at_or, bit_at_not}
+use Rattle.std.proofs.lemmas.Nat.{and_le_l, or_lt}
+use Rattle.std.proofs.lemmas.Nat.Bits.{bit_at_and, bit_at_or, bit_at_not, bit_at-trailing_zeros, bit_at-zero}
 use Rattle.std.proofs.lemmas.Simd.{bit_mask_l, length-chunk}
 use Rattle.std.proofs.lemmas.List.{length-map, get_or_past, get_or-map}
-use Rattle.std.specs.Int.{bit_at, bit_not}
+use Rattle.std.specs.Int.{bit_at, bit_not, trailing_zeros}
 use Rattle.std.proofs.Math.Nat.{zero-min}
 use lib.Lanes.{chunk, mask_l}
 use Rattle.std.proofs.lemmas.Bool.{cases_lt}
@@ -54,21 +55,40 @@ pub set : (x : Bool) → flag x ≡ 1 → x ≡ true
 set true h = refl
 set false h = absurd (omega (arith, h))
 
+-- n places behind i is the first of 32 at which p holds
+pub record IsFirstIn (p : ℕ → Bool) (i n : ℕ) : Type 0 where
+  pub low : i ≤ i + n
+  pub high : i + n ≤ i + 32
+  pub passed : (q : ℕ) → i ≤ q → q < i + n → p q ≡ false
+  pub found : p (i + n) ≡ true
+
 -- the bits of m say of each of 32 places from i on whether p holds there
 module _ (p : ℕ → Bool) (i m : ℕ) (inside : (k : ℕ) → k < 32 → bit_at m k ≡ flag (p (i + k))) (past : (k : ℕ) → 32 ≤ k → bit_at m k ≡ 0) where
-  pub none_told : (n : ℕ) → n ≤ 32 → ((k : ℕ) → k < n → bit_at m k ≡ 0) → (q : ℕ) → i ≤ q → q < i + n → p q ≡ false
+  none_told : (n : ℕ) → n ≤ 32 → ((k : ℕ) → k < n → bit_at m k ≡ 0) → (q : ℕ) → i ≤ q → q < i + n → p q ≡ false
   none_told n most clear q low high =
       let place : i + (q - i) ≡ q = omega (arith, low) in
       ap p (sym place) ∙ unset (p (i + (q - i))) (sym (inside (q - i) (omega (arith, low, high, most))) ∙ clear (q - i) (omega (arith, low, high)))
 
-  pub one_told : (k : ℕ) → k < 32 → bit_at m k ≡ 1 → p (i + k) ≡ true
-  one_told k l one = set (p (i + k)) (sym (inside k l) ∙ one)
-
-  pub low_told : (k : ℕ) → bit_at m k ≡ 1 → k < 32
+  low_told : (k : ℕ) → bit_at m k ≡ 1 → k < 32
   low_told k one = elim (cases_lt k 32) [
     | inl low ↦ low
     | inr high ↦ absurd (omega (arith, one, past k high))
   ]
+
+  pub none_told_by_zero : m ≡ 0 → (q : ℕ) → i ≤ q → q < i + 32 → p q ≡ false
+  none_told_by_zero zero = none_told 32 (omega arith) (λ k l. ap (λ n. bit_at n k) zero ∙ bit_at-zero k)
+
+  -- the lowest bit tells the first place
+  pub first_told : (m ≡ 0 → ⊥) → m < 2 ^ 64 → IsFirstIn p i (trailing_zeros w64 m)
+  first_told some small =
+      let lowest = bit_at-trailing_zeros w64 m (omega (arith, some)) small in
+      let near : trailing_zeros w64 m < 32 = low_told (trailing_zeros w64 m) lowest.1 in
+      record {
+        low = omega arith;
+        high = omega (arith, near);
+        passed = none_told (trailing_zeros w64 m) (omega (arith, near)) lowest.2;
+        found = set (p (i + trailing_zeros w64 m)) (sym (inside (trailing_zeros w64 m) near) ∙ lowest.1);
+      }
 
 -- of the 32 bytes of the text from place i on h is the mask of those in the list, f of the first, and b of the seconds behind
 module _ (bytes : List ℕ) (first : ℕ) (seconds text : List ℕ) (i h f b m : ℕ) (room : i + 32 < length text)
@@ -95,15 +115,12 @@ module _ (bytes : List ℕ) (first : ℕ) (seconds text : List ℕ) (i h f b m :
       ap (λ n. bit_at n k) marked ∙ bit_at_and h (bit_or (bit_not w64 f) b) k
       ∙ ap (λ n. min n (bit_at (bit_or (bit_not w64 f) b) k)) none ∙ zero-min (bit_at (bit_or (bit_not w64 f) b) k)
 
-  pub none_here : (n : ℕ) → n ≤ 32 → ((k : ℕ) → k < n → bit_at m k ≡ 0) → (p : ℕ) → i ≤ p → p < i + n
-      → counts_at bytes first seconds text p ≡ false
-  none_here = none_told (counts_at bytes first seconds text) i m bit_here none_past
+  pub none_here : m ≡ 0 → (p : ℕ) → i ≤ p → p < i + 32 → counts_at bytes first seconds text p ≡ false
+  none_here = none_told_by_zero (counts_at bytes first seconds text) i m bit_here none_past
 
-  pub one_here : (k : ℕ) → k < 32 → bit_at m k ≡ 1 → counts_at bytes first seconds text (i + k) ≡ true
-  one_here = one_told (counts_at bytes first seconds text) i m bit_here none_past
-
-  pub bit_low : (k : ℕ) → bit_at m k ≡ 1 → k < 32
-  bit_low = low_told (counts_at bytes first seconds text) i m bit_here none_past
+  pub first_here : h < 2 ^ 64 → (m ≡ 0 → ⊥) → IsFirstIn (counts_at bytes first seconds text) i (trailing_zeros w64 m)
+  first_here fits some =
+      first_told (counts_at bytes first seconds text) i m bit_here none_past some (omega (arith, marked, fits, and_le_l h (bit_or (bit_not w64 f) b)))
 
 -- a bit of the first mask that the second one hasn't, or one of the second that the third one has
 bit_of_two : (o f b k : ℕ) → f < 2 ^ 64 → k < 64
@@ -154,12 +171,10 @@ module _ (other first second : ℕ) (text : List ℕ) (i o f b m : ℕ) (room : 
       (bit_at_and o (bit_not w64 f) k ∙ ap (λ n. min n (bit_at (bit_not w64 f) k)) no_other ∙ zero-min (bit_at (bit_not w64 f) k))
       (bit_at_and f b k ∙ ap (λ n. min n (bit_at b k)) no_first ∙ zero-min (bit_at b k))
 
-  pub none_of_two : (n : ℕ) → n ≤ 32 → ((k : ℕ) → k < n → bit_at m k ≡ 0) → (p : ℕ) → i ≤ p → p < i + n
-      → counts_at (other ∷ first ∷ []) first (second ∷ []) text p ≡ false
-  none_of_two = none_told (counts_at (other ∷ first ∷ []) first (second ∷ []) text) i m two_here two_past
+  pub none_of_two : m ≡ 0 → (p : ℕ) → i ≤ p → p < i + 32 → counts_at (other ∷ first ∷ []) first (second ∷ []) text p ≡ false
+  none_of_two = none_told_by_zero (counts_at (other ∷ first ∷ []) first (second ∷ []) text) i m two_here two_past
 
-  pub one_of_two : (k : ℕ) → k < 32 → bit_at m k ≡ 1 → counts_at (other ∷ first ∷ []) first (second ∷ []) text (i + k) ≡ true
-  one_of_two = one_told (counts_at (other ∷ first ∷ []) first (second ∷ []) text) i m two_here two_past
-
-  pub low_of_two : (k : ℕ) → bit_at m k ≡ 1 → k < 32
-  low_of_two = low_told (counts_at (other ∷ first ∷ []) first (second ∷ []) text) i m two_here two_past
+  pub first_of_two : o < 2 ^ 64 → (m ≡ 0 → ⊥) → IsFirstIn (counts_at (other ∷ first ∷ []) first (second ∷ []) text) i (trailing_zeros w64 m)
+  first_of_two fits some =
+      let both = or_lt 64 (bit_and o (bit_not w64 f)) (bit_and f b) (omega (arith, fits, and_le_l o (bit_not w64 f))) (omega (arith, small, and_le_l f b)) in
+      first_told (counts_at (other ∷ first ∷ []) first (second ∷ []) text) i m two_here two_past some (omega (arith, marked, both))

@@ -6,6 +6,7 @@ pub mod LeastBoundary
 pub mod LineSums
 pub mod LowHalves
 pub mod Parts
+pub mod Repeats
 pub mod Rests
 pub mod Sets
 pub mod Units

@@ -1,16 +1,16 @@
 -- What a look-up in slots gives, lane by lane.
-use Rattle.std.proofs.Common.{◌≡◌, ℕ, zero, suc, ◌+◌, ◌*◌, ◌/◌, ◌%◌, ◌^◌, ◌<◌, ◌≤◌, List, [], ◌∷◌, Bool, cond, eqb, length, get_or, map, replicate, bit_and, bit_or, min, max, ap₂, ◌&&◌, ◌||◌, false, true, ◌⊎◌, inl, inr, refl, sym, ap, ◌∙◌, arith, w8}
+use Rattle.std.proofs.Common.{◌≡◌, ℕ, zero, suc, ◌+◌, ◌*◌, ◌/◌, ◌%◌, ◌^◌, ◌<◌, ◌≤◌, ◌==◌, List, [], ◌∷◌, Bool, cond, eqb, length, get_or, set, get_or-set_same, get_or-set_other, true≢false, map, replicate, bit_and, bit_or, min, max, ap₂, ◌&&◌, ◌||◌, false, true, ◌⊎◌, inl, inr, refl, sym, ap, ◌∙◌, arith, w8, w64}
 use Rattle.std.proofs.lemmas.Bool.Decides.{Decides-eqb}
 use lib.Bits.{or_step}
 use lib.Lanes.{chunk, zip2, mask_l, top}
-use Rattle.std.specs.Int.{bit_at}
+use Rattle.std.specs.Int.{bit_at, trailing_zeros}
 use Rattle.std.proofs.lemmas.Nat.Bits.{bit_at_and, bit_at_or}
 use Rattle.std.proofs.Math.Nat.{zero-min}
-use Rattle.std.proofs.lemmas.Nat.{and_mask}
+use Rattle.std.proofs.lemmas.Nat.{and_le_l, and_mask, or_lt}
 use Rattle.std.proofs.lemmas.Simd.{length-zip2, get_or-zip2, get_or-replicate, tops_compared, mask_l-mod, length-swz_l, get_or-swz_l_below, swz_l, SwzOk, SwzOk-from_below, Each1-from_get_or}
 use Rattle.std.proofs.lemmas.List.{ext_get_or, length-map, get_or-map}
 use Rattle.tokei_bytes.specs.Slots.{HasSlots, in_slots, is_slotted, is_told}
-use Rattle.tokei_bytes.proofs.Bits.{bit_in, bit_past, none_told, low_told}
+use Rattle.tokei_bytes.proofs.Bits.{IsFirstIn, bit_in, bit_past, none_told_by_zero, first_told}
 
 -- the low halves of 32 bytes
 module _ (v : List ℕ) (long : length v ≡ 32) where
@@ -114,12 +114,14 @@ module _ (alone firsts seconds text : List ℕ) (i a f b m : ℕ) (room : i + 32
       ∙ bit_at_or a (bit_and f b) k
       ∙ ap₂ (λ x y. max x y) no_alone (bit_at_and f b k ∙ ap (λ n. min n (bit_at b k)) no_first ∙ zero-min (bit_at b k))
 
-  pub none_of_told : (n : ℕ) → n ≤ 32 → ((k : ℕ) → k < n → bit_at m k ≡ 0) → (p : ℕ) → i ≤ p → p < i + n
-      → is_told alone firsts seconds (get_or text p 0) (get_or text (p + 1) 0) ≡ false
-  none_of_told = none_told (λ q. is_told alone firsts seconds (get_or text q 0) (get_or text (q + 1) 0)) i m told_here told_past
+  pub none_of_told : m ≡ 0 → (p : ℕ) → i ≤ p → p < i + 32 → is_told alone firsts seconds (get_or text p 0) (get_or text (p + 1) 0) ≡ false
+  none_of_told = none_told_by_zero (λ q. is_told alone firsts seconds (get_or text q 0) (get_or text (q + 1) 0)) i m told_here told_past
 
-  pub low_of_told : (k : ℕ) → bit_at m k ≡ 1 → k < 32
-  low_of_told = low_told (λ q. is_told alone firsts seconds (get_or text q 0) (get_or text (q + 1) 0)) i m told_here told_past
+  pub first_of_told : a < 2 ^ 64 → f < 2 ^ 64 → (m ≡ 0 → ⊥)
+      → IsFirstIn (λ q. is_told alone firsts seconds (get_or text q 0) (get_or text (q + 1) 0)) i (trailing_zeros w64 m)
+  first_of_told small fits some =
+      let both = or_lt 64 a (bit_and f b) (omega (arith, small)) (omega (arith, fits, and_le_l f b)) in
+      first_told (λ q. is_told alone firsts seconds (get_or text q 0) (get_or text (q + 1) 0)) i m told_here told_past some (omega (arith, marked, both))
 
 either_by_tests : (x y : Bool) → max (cond x 1 0) (cond y 1 0) ≡ cond (x || y) 1 0
 either_by_tests true true = refl
@@ -145,12 +147,13 @@ module _ (slots others text : List ℕ) (i a b m : ℕ) (room : i + 32 ≤ lengt
       ∙ bit_at_or a b k
       ∙ ap₂ (λ x y. max x y) (bit_past (is_slotted slots) 32 text i a room ones k past) (bit_past (is_slotted others) 32 text i b room twos k past)
 
-  pub none_slotted_here : (n : ℕ) → n ≤ 32 → ((k : ℕ) → k < n → bit_at m k ≡ 0) → (p : ℕ) → i ≤ p → p < i + n
-      → in_slots slots others (get_or text p 0) ≡ false
-  none_slotted_here = none_told (λ q. in_slots slots others (get_or text q 0)) i m either_here either_past
+  pub none_slotted_here : m ≡ 0 → (p : ℕ) → i ≤ p → p < i + 32 → in_slots slots others (get_or text p 0) ≡ false
+  none_slotted_here = none_told_by_zero (λ q. in_slots slots others (get_or text q 0)) i m either_here either_past
 
-  pub low_of_slotted : (k : ℕ) → bit_at m k ≡ 1 → k < 32
-  low_of_slotted = low_told (λ q. in_slots slots others (get_or text q 0)) i m either_here either_past
+  pub first_of_slotted : a < 2 ^ 64 → b < 2 ^ 64 → (m ≡ 0 → ⊥) → IsFirstIn (λ q. in_slots slots others (get_or text q 0)) i (trailing_zeros w64 m)
+  first_of_slotted small fits some =
+      let both = or_lt 64 a b (omega (arith, small)) (omega (arith, fits)) in
+      first_told (λ q. in_slots slots others (get_or text q 0)) i m either_here either_past some (omega (arith, marked, both))
 
 -- one of two slots keeps a byte where either does
 either : (a b : Bool) → (a || b) ≡ true → (a ≡ true) ⊎ (b ≡ true)
@@ -210,3 +213,24 @@ mask_of_one slots others (x ∷ v) none =
     or_false : (b : Bool) → (b || false) ≡ b
     or_false true = refl
     or_false false = refl
+
+-- what holds by one of two tests held by one of two before, or is new, where it is so of each
+pub either_or_new : (a b old_a old_b : Bool) {New : Type 0} → (a ≡ true → (old_a ≡ true) ⊎ New) → (b ≡ true → (old_b ≡ true) ⊎ New)
+    → (a || b) ≡ true → ((old_a || old_b) ≡ true) ⊎ New
+either_or_new a b true old_b first second h = inl refl
+either_or_new true b false true first second h = inl refl
+either_or_new false b false true first second h = inl refl
+either_or_new true b false false first second h = first refl
+either_or_new false b false false first second h = second h
+
+-- beside the byte that is put into its slot only those stand in theirs that did before
+pub only_put : (slots : List ℕ) (b x : ℕ) → length slots ≡ 16 → is_slotted (set slots (b % 16) b) x ≡ true → (is_slotted slots x ≡ true) ⊎ (x ≡ b)
+only_put slots b x long h = by (x % 16 == b % 16) refl
+  where
+    by : (c : Bool) → (x % 16 == b % 16) ≡ c → (is_slotted slots x ≡ true) ⊎ (x ≡ b)
+    by true q =
+        let there : get_or (set slots (b % 16) b) (b % 16) 0 ≡ b = get_or-set_same slots (b % 16) b 0 (omega (arith, long)) in
+        let stands : get_or (set slots (b % 16) b) (x % 16) 0 ≡ x = (Decides-eqb (get_or (set slots (b % 16) b) (x % 16) 0) x).0 h in
+        inr (sym stands ∙ ap (λ j. get_or (set slots (b % 16) b) j 0) ((Decides-eqb (x % 16) (b % 16)).0 q) ∙ there)
+    by false q =
+        inl (ap (λ y. y == x) (sym (get_or-set_other slots (b % 16) (x % 16) b 0 (λ e. true≢false (sym ((Decides-eqb (x % 16) (b % 16)).1 e) ∙ q)))) ∙ h)

@@ -1,4 +1,5 @@
 use Rattle.std.proofs.Common.{drop, arith}
+use Rattle.std.proofs.lemmas.Grind.{common_steps}
 use Rattle.tokei_bytes.specs.Lines.{front_count, newline_count}
 use Rattle.tokei_bytes.proofs.LineSums.{newlines_fit, fronts_fit_in, all_lines, lines_enough, lines_few}
 use Rattle.tokei_bytes.proofs.lines.count_lines.Goals as goal
@@ -31,3 +32,9 @@ returns-clause-all c =
       all_lines a.text.now a.from l.at l.newlines l.fronts l.blank g.result (omega (arith, c.loop-at-test.false)) i.newlines i.fronts g.ensures,
       lines_enough a.text.now a.from l.at l.newlines l.fronts l.blank g.result (omega (arith, c.loop-at-test.false)) i.newlines i.fronts g.ensures,
     )
+
+pub loop-at-preserved : goal.loop-at-preserved
+loop-at-preserved c = grind (arith, common_steps)
+
+pub returns-clause-solid : goal.returns-clause-solid
+returns-clause-solid c = grind (arith, common_steps)

@@ -24,3 +24,9 @@ returns-then-self-lt-FEW c =
           (has.held (omega arith) (slice_index c.args.text.now there.result))
           (there.ensures.found inside);
     }
+
+pub overflow_add-at : goal.overflow_add-at
+overflow_add-at c = omega (arith, c.loop-at-test.true)
+
+pub bounds-text-at-then-text-at : goal.bounds-text-at-then-text-at
+bounds-text-at-then-text-at c = omega arith

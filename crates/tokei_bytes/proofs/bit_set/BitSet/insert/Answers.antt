@@ -54,3 +54,15 @@ pub returns-else-self-le-FEW-clause-each : goal.returns-else-self-le-FEW-clause-
 returns-else-self-le-FEW-clause-each c = λ x.
     bit_put c.self.inside.words c.args.byte x c.self.invariant.0 c.ranges.byte.fits
     ∙ ap (λ flags. is_in flags x || (x == c.args.byte)) c.self.view_is
+
+pub overflow_add-self : goal.overflow_add-self
+overflow_add-self c = omega arith
+
+pub overflow_shl-self : goal.overflow_shl-self
+overflow_shl-self c = omega arith
+
+pub bounds-self-inside-byte : goal.bounds-self-inside-byte
+bounds-self-inside-byte c = omega arith
+
+pub bounds-self-inside-byte-2 : goal.bounds-self-inside-byte-2
+bounds-self-inside-byte-2 c = omega arith

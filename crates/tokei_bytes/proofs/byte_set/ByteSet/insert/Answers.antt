@@ -1,7 +1,7 @@
-use Rattle.std.proofs.Common.{◌+◌, ◌<◌, ◌∙◌, true, length, slice_set, sym, subst, true≢false, arith}
+use Rattle.std.proofs.Common.{◌+◌, ◌<◌, ◌||◌, ◌==◌, ◌∙◌, true, length, slice_set, sym, ap, subst, true≢false, arith}
 use Rattle.std.proofs.lemmas.List.{length-set}
-use Rattle.tokei_bytes.specs.ByteSets.{HasFew}
-use Rattle.tokei_bytes.proofs.Sets.{IsPut, few_past, few_with_one, stay_alone, stay_slotted}
+use Rattle.tokei_bytes.specs.ByteSets.{HasFew, is_in}
+use Rattle.tokei_bytes.proofs.Sets.{IsPut, few_past, few_with_one, put_in, stay_alone, stay_slotted}
 use Rattle.tokei_bytes.proofs.byte_set.ByteSet.insert.Goals as goal
 use Rattle.tokei_bytes.proofs.byte_set.ByteSet.insert.Goals.{then-self, else-self}
 
@@ -51,3 +51,25 @@ invariant_of-self-else-self-le-FEW c =
         ),
       ),
     )
+
+pub returns-then-self-le-FEW-clause-long : goal.returns-then-self-le-FEW-clause-long
+returns-then-self-le-FEW-clause-long c = length-set c.self.inside.flags c.args.byte true ∙ ap length c.self.view_is
+
+pub returns-then-self-le-FEW-clause-each : goal.returns-then-self-le-FEW-clause-each
+returns-then-self-le-FEW-clause-each c = λ x.
+    let inside : c.args.byte < length c.self.inside.flags = subst (λ n. c.args.byte < n) (sym c.self.invariant.0) c.ranges.byte.fits in
+    put_in c.self.inside.flags c.args.byte x inside ∙ ap (λ flags. is_in flags x || (x == c.args.byte)) c.self.view_is
+
+pub returns-else-self-le-FEW-clause-long : goal.returns-else-self-le-FEW-clause-long
+returns-else-self-le-FEW-clause-long c = length-set c.self.inside.flags c.args.byte true ∙ ap length c.self.view_is
+
+pub returns-else-self-le-FEW-clause-each : goal.returns-else-self-le-FEW-clause-each
+returns-else-self-le-FEW-clause-each c = λ x.
+    let inside : c.args.byte < length c.self.inside.flags = subst (λ n. c.args.byte < n) (sym c.self.invariant.0) c.ranges.byte.fits in
+    put_in c.self.inside.flags c.args.byte x inside ∙ ap (λ flags. is_in flags x || (x == c.args.byte)) c.self.view_is
+
+pub overflow_add-self : goal.overflow_add-self
+overflow_add-self c = omega arith
+
+pub bounds-self-inside-byte-2 : goal.bounds-self-inside-byte-2
+bounds-self-inside-byte-2 c = omega arith
