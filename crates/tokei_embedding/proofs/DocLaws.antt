@@ -145,6 +145,9 @@ doc_step c t b (Some mark) h e = subst Within e (marked_reaches c t mark h.0 h.1
     Within None = Unit {0}
     Within (Some f) = Reaches f.size f.contents (c ∷ t)
 
+no_block : (b : DocBlock) → None ≡ Some b → ⊥
+no_block b e = cc
+
 pub doc_reach : (rest : List ℕ) (b : DocBlock) → doc_block rest ≡ Some b → Reaches b.size b.contents rest
-doc_reach [] b e = absurd (cc)
+doc_reach [] b e = absurd (no_block b e)
 doc_reach (c ∷ t) b e = doc_step c t b (mark_of (first_line (c ∷ t))) (mark_stands (first_line (c ∷ t))) e

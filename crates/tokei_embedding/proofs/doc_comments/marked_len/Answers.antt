@@ -1,5 +1,6 @@
 use Rattle.std.proofs.Common.{◌≡◌, ◌<◌, ◌+◌, ◌-◌, ◌∙◌, length, take, drop, ap, sym, arith, length-drop}
 use Rattle.std.proofs.lemmas.List.{take_rest, drop-drop}
+use Rattle.std.proofs.lemmas.Grind.{common_steps}
 use Rattle.tokei_embedding.proofs.Lines.{marked-stops, marked-goes}
 use Rattle.tokei_embedding.specs.DocComments.{first_line, marked_len, lines_of}
 use Rattle.tokei_table_row.specs.Bytes.{begins}
@@ -27,3 +28,9 @@ loop-at-preserved c =
     ap (λ w. marked_len c.args.mark.now (lines_of w)) (drop-drop (length line) c.loop-at.at t) in
     let fits : length (take (length t - c.loop-at.at) rest) ≡ length t - c.loop-at.at = ap length (take_rest t c.loop-at.at) ∙ length-drop c.loop-at.at t in
     (omega (arith, more, on, c.loop-at.invariant.0), omega (arith, fits, c.first_line-line.ensures.within, c.loop-at.invariant.1))
+
+pub loop-at-smaller : goal.loop-at-smaller
+loop-at-smaller c = omega arith
+
+pub returns-clause-value : goal.returns-clause-value
+returns-clause-value c = grind (arith, common_steps)

@@ -1,6 +1,7 @@
 use Rattle.std.proofs.Common.{◌≡◌, ◌+◌, ◌-◌, ◌<◌, length, take, get_or, arith}
 use Rattle.std.proofs.lemmas.Bool.Decides.{Decides-eqb}
 use Rattle.std.proofs.lemmas.List.{length-take-le}
+use Rattle.std.proofs.lemmas.Grind.{common_steps}
 use Rattle.tokei_embedding.proofs.Backticks.{none_until, before_third, over_one, none_left, too_short}
 use Rattle.tokei_embedding.proofs.Backticks.{apart_in_front, read_there, none_in_part, three_stand}
 use Rattle.tokei_embedding.proofs.fences.next_backticks.Goals as goal
@@ -61,3 +62,6 @@ returns-clause-passed c =
     none_in_part a.text.now a.from a.to a.to (omega arith)
     (λ p. none_until t a.from c.loop-at.at a.to p c.loop-at.invariant.none
     (λ q l m. too_short t q (omega (arith, whole, l, c.loop-at-test.false))))
+
+pub loop-at-preserved : goal.loop-at-preserved
+loop-at-preserved c = grind (arith, common_steps)

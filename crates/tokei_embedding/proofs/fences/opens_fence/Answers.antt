@@ -7,3 +7,9 @@ returns-else-len-gt0 c = grind (arith, common_steps)
 
 pub returns-then-len-gt0 : goal.returns-then-len-gt0
 returns-then-len-gt0 c = grind (arith, common_steps)
+
+pub slice_bounds-behind-start : goal.slice_bounds-behind-start
+slice_bounds-behind-start c = omega arith
+
+pub slice_bounds-behind-count : goal.slice_bounds-behind-count
+slice_bounds-behind-count c = omega arith

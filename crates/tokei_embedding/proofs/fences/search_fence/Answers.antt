@@ -81,3 +81,6 @@ returns-then-from-to-clause-value c =
     let part = take (a.to - a.from) (drop a.from a.text.now) in
     let long : length part ≡ a.to - a.from = part_length a.text.now a.from (a.to - a.from) (omega arith) in
     sym (first_where-none opens_fence part (λ j l. absurd (omega (arith, l, long, c.if-from-to.true))))
+
+pub overflow_add-at : goal.overflow_add-at
+overflow_add-at c = omega arith

@@ -23,3 +23,9 @@ returns-after-loop-at-clause-mark c = grind (arith, common_steps)
 
 pub loop-at-init : goal.loop-at-init
 loop-at-init c = grind (arith, common_steps)
+
+pub overflow_add-at : goal.overflow_add-at
+overflow_add-at c = omega arith
+
+pub bounds-text-at-then-text-at-ne10 : goal.bounds-text-at-then-text-at-ne10
+bounds-text-at-then-text-at-ne10 c = omega arith

@@ -57,3 +57,6 @@ returns-clause-none c = λ p l m.
     let whole : c.loop-slash.slash ≡ a.to = omega (arith, i.high, c.loop-slash-test.false) in
     no_doc a.text.now a.at a.to p (c.requires.line (omega (arith, l, m))) l m
     (none_in_line a.text.now a.at a.to p l m c.requires.ends (subst (λ k. NoMarks (take (a.to - a.at) (drop a.at a.text.now)) (k - a.at)) whole i.none))
+
+pub overflow_add-slash : goal.overflow_add-slash
+overflow_add-slash c = omega arith

@@ -1,4 +1,6 @@
+use Rattle.std.proofs.Common.{◌<◌, length, subst}
 use Rattle.tokei_embedding.proofs.LastPlaces.{last_later, last_before, nowhere_later}
+use Rattle.tokei_embedding.specs.Remembered.{Sought}
 use Rattle.tokei_embedding.proofs.last_search.LastSearch.place_in.Goals as goal
 use Rattle.tokei_embedding.proofs.last_search.LastSearch.place_in.Goals.{in-Some, in_default-2, in_default}
 
@@ -15,3 +17,6 @@ returns-then-self-from-clause-last c =
           let known = rw (w.in_default.is, ← c.if-to-self.true) at c.self.invariant.1 in
           rw (w.result-is, ← c.self.view_is) (nowhere_later _ c.self.inside.from c.args.to c.args.from known c.if-self-from.true)
     ]
+
+pub returns-then-self-from-clause-some : goal.returns-then-self-from-clause-some
+returns-then-self-from-clause-some c = subst (λ (sought : Sought). 0 < length sought.token) c.self.view_is c.self.invariant.0

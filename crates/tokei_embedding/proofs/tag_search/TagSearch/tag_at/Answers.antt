@@ -1,6 +1,7 @@
-use Rattle.std.proofs.Common.{◌-◌, ◌∙◌, ap, sym, take, drop, arith}
+use Rattle.std.proofs.Common.{◌≡◌, ◌-◌, ◌≤◌, ◌∙◌, IfSome, length, ap, sym, subst, take, drop, length-take, length-drop, arith}
 use Rattle.std.proofs.lemmas.Grind.{common_steps}
 use Rattle.tokei_table_row.specs.Bytes.{begins}
+use Rattle.tokei_embedding.specs.TagSearches.{TagSought}
 use Rattle.tokei_embedding.proofs.Places.{part_from}
 use Rattle.tokei_embedding.proofs.TagPlaces.{no_tag}
 use Rattle.tokei_embedding.proofs.tag_search.TagSearch.tag_at.Goals as goal
@@ -33,7 +34,12 @@ pub opening_at-requires-clause-stands : goal.opening_at-requires-clause-stands
 opening_at-requires-clause-stands c = grind (arith, common_steps)
 
 pub bytes_of-value-requires : goal.bytes_of-value-requires
-bytes_of-value-requires c = grind (arith, common_steps)
+bytes_of-value-requires c =
+    let a = c.args in
+    let text = c.self.inside.text.now in
+    let long : length (take (a.to - a.from) (drop a.from text)) ≡ a.to - a.from =
+    omega (arith, length-take (a.to - a.from) (drop a.from text), length-drop a.from text, ap (λ (s : TagSought). length s.text) c.self.view_is) in
+    subst (λ n. IfSome c.in_ok-opening.opening.value (λ s. (s.start ≤ s.stop) × (s.stop ≤ n))) (sym long) c.in_ok-opening.ensures.value_within
 
 pub first_in-requires-clause-ends : goal.first_in-requires-clause-ends
 first_in-requires-clause-ends c = grind (arith, common_steps)
@@ -55,3 +61,11 @@ slice_bounds-bytes_of-start c = grind (arith, common_steps)
 
 pub slice_bounds-bytes_of-end : goal.slice_bounds-bytes_of-end
 slice_bounds-bytes_of-end c = grind (arith, common_steps)
+
+pub first_in-requires-clause-order : goal.first_in-requires-clause-order
+first_in-requires-clause-order c = omega arith
+
+pub invariant_of-self-2 : goal.invariant_of-self-2
+invariant_of-self-2 c =
+    let i = c.self.invariant in
+    record { begun = c.first_in.ensures.same ∙ i.begun; opened = c.opening_at.ensures.same ∙ i.opened; closed = i.closed; blank = i.blank }
