@@ -1,11 +1,11 @@
 -- The places of all groups are put into one list, one group after the other.
 use Rattle.std.proofs.Common.{◌≡◌, ◌≢◌, ℕ, zero, suc, ◌+◌, ◌-◌, ◌<◌, ◌≤◌, eqb, ltb, Bool, true, false, cond, List, [], ◌∷◌}
 use Rattle.std.proofs.Common.{◌++◌, length, get_or, set, take, drop, inl, inr, refl, sym, ap, ◌∙◌, subst, arith, true≢false}
-use Rattle.std.proofs.Common.{append_assoc, append-nil, get_or-set_other, get_or-set_same, length-drop}
+use Rattle.std.proofs.Common.{append_assoc, append-nil, replicate, get_or-set_other, get_or-set_same, length-drop}
 use Rattle.std.proofs.lemmas.Bool.{cases_lt}
 use Rattle.std.proofs.lemmas.Bool.Decides.{Decides-eqb, nat_tests}
 use Rattle.std.proofs.lemmas.Grind.{get_or_default_zero}
-use Rattle.std.proofs.lemmas.List.{at_drop_more, at_drop_all, drop-set-lt, drop-set-add, length-set, take-set-le, take_more_set}
+use Rattle.std.proofs.lemmas.List.{at_drop_more, at_drop_all, drop-set-lt, drop-set-add, length-set, length-replicate, get_or-replicate, take-set-le, take_more_set}
 use Rattle.std.specs.List.{slice_range}
 use Rattle.tokei_table_rules.specs.TextIndex.{in_group, begin_of, begin_at, parts_from, AreGroups, AreEnds, HasForEach}
 
@@ -259,6 +259,15 @@ pub record AreCounted (entries later : List (ℕ × ℕ)) (counts : List ℕ) : 
   pub all : length counts ≡ 256
   pub each : (g : ℕ) → g < 256 → get_or counts g 0 + length (in_group g later) ≡ length (in_group g entries)
 
+-- before the first entry is counted, each count is 0
+pub none_counted : (entries : List (ℕ × ℕ)) (counts : List ℕ) → counts ≡ replicate 256 0 → AreCounted entries entries counts
+none_counted entries counts is = record {
+  all = ap length is ∙ length-replicate {A = ℕ} 256 0;
+  each = λ g below.
+      let none = ap (λ ns. get_or ns g 0) is ∙ get_or-replicate {A = ℕ} 256 g 0 0 below in
+      omega (arith, none);
+}
+
 module _ (entries : List (ℕ × ℕ)) (counts : List ℕ) (i k c : ℕ) (l : i < length entries)
     (r : AreCounted entries (drop i entries) counts) (is : k ≡ (get_or entries i (0, 0)).0) (below : k < 256)
     (at : c ≡ get_or counts k c) where
@@ -363,6 +372,10 @@ pub part_bounds : (ends places : List ℕ) (g b e : ℕ) → g < 256 → AreEnds
     → e ≡ get_or ends g e → b ≤ e
 part_bounds ends places g b e below r begins is =
     omega (arith, begins, read ends g e r.all below is, r.ascend g below)
+
+-- a group ends where places are
+pub part_within : (ends places : List ℕ) (g e : ℕ) → g < 256 → AreEnds ends places → e ≡ get_or ends g e → e ≤ length places
+part_within ends places g e below r is = omega (arith, read ends g e r.all below is, r.within g below)
 
 pub part_read : (ends places : List ℕ) (g b e : ℕ) → length ends ≡ 256 → g < 256 → b ≡ begin_at ends g
     → e ≡ get_or ends g e → slice_range places b e ≡ get_or (parts_from 0 ends places) g []

@@ -4,7 +4,7 @@ ghost use Rattle.std.specs.Prelude.{◌≡◌, ◌<◌, length, map, IfOk};
 ghost use Rattle.std.specs.List.{list_any};
 ghost use Rattle.tokei_table_rules.specs.Lookups.{row_at};
 ghost use Rattle.tokei_table_rules.specs.PathSuffixes.{has_short_suffix};
-ghost use Rattle.tokei_table_rules.specs.TextIndex.{places_of};
+ghost use Rattle.tokei_table_rules.specs.TextIndex.{places_of, texts_of, entries_from, AreGroups};
 ghost use Rattle.tokei_table_row.specs.RowOf.{row_of};
 
 use crate::path_suffixes::{has_short_suffix, tail};
@@ -40,6 +40,23 @@ impl Model for IndexedRows {
         t.by_extension t.by_filename t.by_suffix_tail t.short_suffix };
 }
 
+/// The indexes of the rows' texts of two kinds.
+fn two_indexes(
+    alloc: Global,
+    rows: &[Syntax],
+    first: TextKind,
+    second: TextKind,
+) -> Result<(TextIndex, TextIndex), AllocError>
+    ensures first { IfOk result (λ two. AreGroups
+        (entries_from (texts_of first) 0 (map row_of rows.now)) two.0) }
+    ensures second { IfOk result (λ two. AreGroups
+        (entries_from (texts_of second) 0 (map row_of rows.now)) two.1) }
+{
+    let first = TextIndex::of(alloc, rows, first)?;
+    let second = TextIndex::of(alloc, rows, second)?;
+    Ok((first, second))
+}
+
 impl IndexedRows {
     /// These rows with an index of their keys and names, one of their names in lower case, one of
     /// their extensions, one of whole names of files and one of what path suffixes end with. It
@@ -47,11 +64,19 @@ impl IndexedRows {
     pub fn new(alloc: Global, rows: Vec<Syntax>) -> Result<IndexedRows, AllocError>
         ensures { IfOk result (λ t. t ≡ map row_of rows.items) }
     {
-        let by_name = TextIndex::of(alloc, &rows, TextKind::Names)?;
-        let by_lowered_name = TextIndex::of(alloc, &rows, TextKind::LoweredNames)?;
+        let (by_name, by_lowered_name) = two_indexes(
+            alloc,
+            &rows,
+            TextKind::Names,
+            TextKind::LoweredNames,
+        )?;
         let by_extension = TextIndex::of(alloc, &rows, TextKind::Extensions)?;
-        let by_filename = TextIndex::of(alloc, &rows, TextKind::Filenames)?;
-        let by_suffix_tail = TextIndex::of(alloc, &rows, TextKind::SuffixTails)?;
+        let (by_filename, by_suffix_tail) = two_indexes(
+            alloc,
+            &rows,
+            TextKind::Filenames,
+            TextKind::SuffixTails,
+        )?;
         let short_suffix = has_short_suffix(&rows);
         Ok(IndexedRows {
             rows,

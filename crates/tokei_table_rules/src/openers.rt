@@ -57,6 +57,23 @@ fn add_tags(alloc: Global, out: &mut Vec<String>, tags: &[String]) -> Result<(),
     Ok(())
 }
 
+/// Adds what `important_syntax` answers.
+fn add_important_syntax(
+    alloc: Global,
+    out: &mut Vec<String>,
+    row: &Syntax,
+) -> Result<(), AllocError>
+    ensures { OnOk result
+        (tokens_of out.new.items ≡ tokens_of out.old.items ++ important_syntax (row_of row.now)) }
+{
+    add_starts(alloc, out, &row.quotes)?;
+    add_starts(alloc, out, &row.doc_quotes)?;
+    add_starts(alloc, out, &row.multi_line_comments)?;
+    add_starts(alloc, out, &row.nested_comments)?;
+    add_texts(alloc, out, &row.important_syntax)?;
+    add_tags(alloc, out, &row.contexts)
+}
+
 /// The starts of string literals, of documentation in them and of comments, the member
 /// `important_syntax`, and in a row of kind `html` the tags with their bracket. It fails where
 /// memory runs out.
@@ -69,12 +86,7 @@ pub fn important_syntax(alloc: Global, row: &Syntax) -> Result<Vec<String>, Allo
         .saturating_add(row.important_syntax.len() + row.contexts.len())
         .saturating_add(row.verbatim_quotes.len());
     let mut out = Vec::with_capacity(alloc, number)?;
-    add_starts(alloc, &mut out, &row.quotes)?;
-    add_starts(alloc, &mut out, &row.doc_quotes)?;
-    add_starts(alloc, &mut out, &row.multi_line_comments)?;
-    add_starts(alloc, &mut out, &row.nested_comments)?;
-    add_texts(alloc, &mut out, &row.important_syntax)?;
-    add_tags(alloc, &mut out, &row.contexts)?;
+    add_important_syntax(alloc, &mut out, row)?;
     Ok(out)
 }
 

@@ -1,4 +1,5 @@
-use Rattle.std.proofs.Common.{◌+◌, ◌++◌, [], ◌∷◌, ◌∙◌, ap, sym, drop, append_assoc}
+use Rattle.std.proofs.Common.{◌+◌, ◌++◌, [], ◌∷◌, ◌∙◌, ap, sym, drop, append_assoc, arith}
+use Rattle.std.proofs.lemmas.Grind.{common_steps}
 use Rattle.std.proofs.lemmas.List.{at_drop_more}
 use Rattle.std.specs.Prelude.{string_bytes}
 use Rattle.tokei_table_row.specs.RowOf.{tokens_of}
@@ -19,3 +20,6 @@ loop-text-preserved c =
     ∙ sym (at_drop_more (λ rest. before ++ entries_of p (tokens_of rest)) texts i
     c.text-item.result c.loop-text-test.true)
     ∙ c.loop-text.invariant
+
+pub returns : goal.returns
+returns c = grind (arith, common_steps)

@@ -1,5 +1,5 @@
 use Rattle.std.proofs.Common.{◌<◌, arith}
-use Rattle.tokei_table_rules.proofs.TextGroups.{all_counted, count_within, item_counted}
+use Rattle.tokei_table_rules.proofs.TextGroups.{none_counted, all_counted, count_within, item_counted}
 use Rattle.tokei_table_rules.proofs.text_index.counts_of.Goals as goal
 
 pub overflow_add-index_mut : goal.overflow_add-index_mut
@@ -24,3 +24,8 @@ pub returns : goal.returns
 returns c =
     all_counted c.args.entries.now c.loop-group.counts.items c.loop-group.group-index c.loop-group-test.false
     c.loop-group.invariant
+
+pub loop-group-init : goal.loop-group-init
+loop-group-init c =
+    none_counted c.args.entries.now c.in_ok-counts.counts.items
+    (c.in_ok-counts.ensures.items_if_clones_equal (λ y same. same))

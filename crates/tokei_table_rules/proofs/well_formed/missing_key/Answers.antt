@@ -1,4 +1,5 @@
-use Rattle.std.proofs.Common.{◌≡◌, ℕ, true, false, not, List, [], map, get_or, Bor, ap, sym, ◌∙◌}
+use Rattle.std.proofs.Common.{◌≡◌, ℕ, true, false, not, List, [], map, get_or, Bor, ap, sym, ◌∙◌, arith}
+use Rattle.std.proofs.lemmas.Grind.{common_steps}
 use Rattle.std.specs.List.{list_all}
 use Rattle.std.specs.String.{string_bytes}
 use Rattle.tokei_table_row.specs.Bytes.{holds}
@@ -31,3 +32,6 @@ returns-then-not-has_key c =
       needed = ap (λ ks. holds ks (get_or keys i none).now) (sym needed) ∙ held keys i none c.loop-key-test.true;
       missing = missing;
     }
+
+pub returns-clause-found : goal.returns-clause-found
+returns-clause-found c = grind (arith, common_steps)
