@@ -1,6 +1,6 @@
 -- Trees that are made of data.
-use Rattle.std.proofs.Common.{◌≡◌, ℕ, List, [], ◌∷◌, None, Some, Option, refl}
-use Rattle.std.proofs.Common.{sym, ap, ◌∙◌, subst, map, String, Global, string_bytes, option_map, option_and_then, ◌≤◌, arith, rules}
+use Rattle.std.proofs.Common.{◌≡◌, ℕ, List, [], ◌∷◌, None, Some, Option, Result, Ok, Err, IfOk, refl}
+use Rattle.std.proofs.Common.{sym, ap, ◌∙◌, subst, map, String, Vec, Global, string_bytes, option_map, option_and_then, ◌≤◌, arith, rules}
 use Rattle.std.proofs.lemmas.List.{append-nil}
 use Rattle.std.specs.Cmp.Lexicographic.{slice_cmp}
 use Rattle.std.specs.List.{AllByRecursion}
@@ -14,16 +14,17 @@ use Rattle.json.specs.Lex.{tokens}
 use Rattle.json.specs.Print.{print, print_from}
 use Rattle.json.specs.Token.{Token}
 use Rattle.json.specs.Tree.{json_tokens}
-use Rattle.serde_json.specs.Data.{Num, Data, depth, number, item, Items, Members, no_members, member}
+use Rattle.serde_json.specs.Data.{Num, Data, depth, number, array, object, item, Items, Members, no_members, member}
 use Rattle.serde_json.specs.Read.{number_of, of_json, read, max_depth}
 use Rattle.serde_json.specs.View.{view, members_view, number_view}
 use Rattle.serde_json.specs.Written.{IsInOrder, blank, number_text}
 use Rattle.serde_json.specs.declared.number.Number.{Number}
 use Rattle.serde_json.specs.declared.value.Value.{Value, the_lemmas}
 use Rattle.serde_json.specs.declared.value.Value.{Number as ANumber}
-use Rattle.json.specs.declared.value.Value.{Number as TreeNumber}
+use Rattle.json.proofs.Trees.{view-Array, view-Object}
+use Rattle.json.specs.declared.value.Value.{Value as Tree, Number as TreeNumber, Array as TreeArray, Object as TreeObject}
 use Rattle.json.specs.declared.value.Value.{the_lemmas as tree_lemmas}
-use Rattle.json.specs.Value.{value_view}
+use Rattle.json.specs.Value.{value_view, items_view, members_view as tree_members}
 use Rattle.std.specs.Borrow.{Bor}
 use Rattle.tokei_json_tree.specs.Converted.{IsTreeOf, AreItemsOf, AreMembersOf}
 use Rattle.tokei_json_tree.specs.Ordered.{keys_of, AreKeysInOrder}
@@ -72,6 +73,19 @@ pub keys_in_order : (es : List (String Global × Value)) (ms : json.Members)
     → IsStrictlySortedBy text_cmp (map (λ e. e.0) es) → AreMembersOf (members_view es) ms → AreKeysInOrder ms
 keys_in_order es ms h of =
     subst (IsStrictlySortedBy (slice_cmp nat_cmp)) (ap data_keys (sym of.value) ∙ same_keys ms) (in_order_of_map es h)
+
+-- an array of items that stand for data, and an object of members that do, whose keys are those of a map
+pub array_of : {A : Type 0} (ds : Items) (vec : Vec (Tree A) A) → AreItemsOf ds (items_view vec.items)
+    → IsTreeOf (array ds) (value_view (TreeArray vec))
+array_of ds vec of =
+    subst (λ j. IsTreeOf (array ds) j) (sym (view-Array vec)) (record { value = ap array of.value; ordered = of.ordered })
+
+pub object_of : {A : Type 0} (es : List (String Global × Value)) (vec : Vec (Bor (List ℕ) × Tree A) A)
+    → IsStrictlySortedBy text_cmp (map (λ e. e.0) es) → AreMembersOf (members_view es) (tree_members vec.items)
+    → IsTreeOf (object (members_view es)) (value_view (TreeObject vec))
+object_of es vec h of =
+    subst (λ j. IsTreeOf (object (members_view es)) j) (sym (view-Object vec))
+    (record { value = ap object of.value; ordered = (keys_in_order es (tree_members vec.items) h of, of.ordered) })
 
 -- a number that is written and read again
 unmapped : (o : Option Num) (n : Num) → option_map number o ≡ Some (number n) → o ≡ Some n
@@ -123,3 +137,9 @@ number_converted A v x s e compact order back =
     let tree = number_tree s.now (number_view x) compact (subst (IsInOrder s.now) is order) (back flat ∙ ap Some is) in
     subst (λ d. IsTreeOf d (value_view {A = A} (TreeNumber s))) (sym is)
     (subst (IsTreeOf (number (number_view x))) (sym (tree_number A s)) tree)
+
+-- what a call tells of any number, at the number that there is
+pub tree_of_number : {A E : Type 0} (v : Value) (r : Result (Tree A) E) (x : Number) → v ≡ ANumber x
+    → IfOk r (λ t. (n : Number) → v ≡ ANumber n → IsTreeOf (view v) (value_view t)) → IfOk r (λ t. IsTreeOf (view v) (value_view t))
+tree_of_number v (Ok t) x is h = h x is
+tree_of_number v (Err e) x is h = tt

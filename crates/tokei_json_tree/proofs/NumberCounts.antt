@@ -6,8 +6,7 @@ use Rattle.std.proofs.lemmas.Bool.Decides.{nat_tests}
 use Rattle.std.specs.Float.{binary64, float_is_finite}
 use Rattle.std.specs.Option.{SomeIff}
 use Rattle.fast_float.specs.Text.{IsInteger, Parts, digits_of, minus, nearest, scan, with_sign}
-use Rattle.json.specs.Json as json
-use Rattle.serde_json.specs.Data.{Num, unsigned, negative, float, number}
+use Rattle.serde_json.specs.Data.{Num, unsigned, negative, float}
 use Rattle.serde_json.specs.Find.{as_u64}
 use Rattle.serde_json.specs.Read.{float_of, is_integer, number_from, number_of}
 

@@ -1,20 +1,23 @@
 -- Members whose keys are put in order, and what a tree made so stands for.
-use Rattle.std.proofs.Common.{◌≡◌, ℕ, zero, suc, ◌<◌, List, [], ◌∷◌, ◌++◌, length, take, get_or, is_lt, arith, Bool}
-use Rattle.std.proofs.Common.{false, ◌||◌, Bor, refl, sym, ap, ◌∙◌, subst, true, Ordering, Less, Equal, Greater, option_map, option_and_then}
+use Rattle.std.proofs.Common.{◌≡◌, ℕ, zero, suc, ◌<◌, ◌≤◌, ◌+◌, ◌-◌, drop, List, [], ◌∷◌, ◌++◌, length, take, get_or, is_lt, arith, Bool}
+use Rattle.std.proofs.Common.{false, ◌||◌, Bor, refl, sym, ap, ◌∙◌, subst, true, rules, Ordering, Less, Equal, Greater, option_map, option_and_then, Vec, Option, None, Some, is_some}
 use Rattle.std.proofs.lemmas.Cmp.{nat_list_cmp_total}
 use Rattle.std.specs.Cmp.Lexicographic.{slice_cmp}
 use Rattle.std.specs.List.{AllByRecursion}
 use Rattle.std.specs.List.Sorted.{IsStrictlySortedBy}
 use Rattle.std.specs.Ordering.{nat_cmp, match_ordering, ordering_reverse}
 use Rattle.json.specs.Json as json
-use Rattle.json.specs.Value.{value_view, members_view}
-use Rattle.json.specs.declared.value.Value.{Value}
-use Rattle.serde_json.specs.Data.{Data, item, Members, no_members, member, put}
-use Rattle.serde_json.specs.Read.{of_items, of_members}
+use Rattle.json.proofs.Trees.{view-Array, view-Object}
+use Rattle.json.specs.Value.{value_view, items_view, members_view}
+use Rattle.json.specs.declared.value.Value.{Value, Number, Array, Object, the_lemmas}
+use Rattle.serde_json.specs.Data.{Num, unsigned, negative, float, number, Data, array, object, item, Members, no_members, member, put}
+use Rattle.serde_json.specs.Find.{as_u64}
+use Rattle.serde_json.specs.Read.{number_of, of_items, of_members}
 use Rattle.serde_json.specs.Written.{has_float, items_have_float, members_have_float}
 use Rattle.tokei_json_tree.specs.Ordered.{keys_of, AreBefore, AreKeysInOrder, IsOrdered, AreMembersOrdered}
 use Rattle.tokei_json_tree.specs.Orderings.{AreItemsOrderingOf, AreMembersOrderingOf, IsOrderingOf, IsPut}
-use Rattle.tokei_json_tree.specs.TreeData.{data_of, items_data, members_data}
+use Rattle.tokei_json_tree.specs.TreeData.{data_of, items_data, members_data, number_data}
+use Rattle.tokei_json_tree.proofs.Steps.{from_item}
 
 abbrev Key : Type 0
 Key = List ℕ
@@ -102,6 +105,18 @@ module _ (A : Type 0) where
       let here = at_place (λ q. slice_cmp nat_cmp y.0.now q ≡ Less) es i x (omega (arith, l)) e s.0 in
       (nat_list_cmp_total.trans y.0.now x.0.now k here less, first_before k es i x (omega (arith, l)) e s.1 less)
 
+  -- a key that is before all from a place on, and before the one in front of it, is before all from there on
+  pub before_longer : (k : Key) (es : List Entry) (first place : ℕ) (x : Entry) → first < place → place ≤ length es → x ≡ get_or es (place - 1) x
+      → is_lt (slice_cmp nat_cmp k x.0.now) ≡ true → IsBeforeAll k (keys (drop place es)) → IsBeforeAll k (keys (drop (place - 1) es))
+  before_longer k es first place x some within is less before =
+      let next : place - 1 + 1 ≡ place = omega arith in
+      let e = from_item es (place - 1) x (omega arith) is in
+      subst (λ xs. IsBeforeAll k (keys xs)) (sym (e ∙ ap (λ n. x ∷ drop n es) next)) (less_than _ less, before)
+
+-- nothing true is false
+pub untrue : {P : Type 0} → false ≡ true → P
+untrue e = absurd cc
+
 none_either : (a b : Bool) → a ≡ false → b ≡ false → (a || b) ≡ false
 none_either a b e f = ap (λ x. x || b) e ∙ f
 
@@ -137,6 +152,44 @@ item_ordered old new olds news h more = record {
   ordered = (h.ordered, more.ordered);
   whole = none_either (has_float (data_of new)) (items_have_float (items_data news)) h.whole more.whole;
 }
+
+-- a number that reads as a count stands for what it reads as
+count_whole : (n : Option Num) → is_some (option_and_then as_u64 n) ≡ true
+    → (option_map number n ≡ Some (number_data n)) × (has_float (number_data n) ≡ false)
+count_whole None e = absurd cc
+count_whole (Some (unsigned n)) e = (refl, refl)
+count_whole (Some (negative z)) e = absurd cc
+count_whole (Some (float x)) e = absurd cc
+
+view_number : (A : Type 0) (s : Bor (List ℕ)) → value_view {A = A} (Number s) ≡ json.number s.now
+view_number A s = search (rules, the_lemmas)
+
+pub number_ordered : (A : Type 0) (v : Value A) (s : Bor (List ℕ)) (o : Option ℕ) → v ≡ Number s → o ≡ option_and_then as_u64 (number_of s.now)
+    → is_some o ≡ true → IsOrderingOf (value_view v) (value_view {A = A} (Number s))
+number_ordered A v s o is same e =
+    let n = view_number A s in
+    let whole = count_whole (number_of s.now) (ap is_some (sym same) ∙ e) in
+    subst (λ w. IsOrderingOf (value_view w) (value_view {A = A} (Number s))) (sym is)
+    (subst (λ j. IsOrderingOf j j) (sym n) (record { reads = whole.0; ordered = tt; whole = whole.1 }))
+
+-- an array of items that were, and an object of members
+pub array_ordered : {A : Type 0} (olds : json.Items) (vec : Vec (Value A) A) → AreItemsOrderingOf olds (items_view vec.items)
+    → IsOrderingOf (json.array olds) (value_view (Array vec))
+array_ordered olds vec h =
+    subst (IsOrderingOf (json.array olds)) (sym (view-Array vec)) (record {
+      reads = ap (option_map array) h.reads;
+      ordered = h.ordered;
+      whole = h.whole;
+    })
+
+pub object_ordered : {A : Type 0} (olds : json.Members) (vec : Vec (Bor (List ℕ) × Value A) A)
+    → AreMembersOrderingOf olds (members_view vec.items) → IsOrderingOf (json.object olds) (value_view (Object vec))
+object_ordered olds vec h =
+    subst (IsOrderingOf (json.object olds)) (sym (view-Object vec)) (record {
+      reads = ap (option_map object) h.reads;
+      ordered = (h.keys, h.ordered);
+      whole = h.whole;
+    })
 
 -- the members that were put in order, where those behind are still to come
 pub record IsOrderingSoFar (all behind made : json.Members) : Type 0 where

@@ -1,14 +1,32 @@
 //! A value of `serde_json` as a tree.
-ghost use Rattle.std.specs.Prelude.{IfOk};
-ghost use Rattle.json.specs.Value.{value_view, items_view, members_view};
+ghost use Rattle.std.specs.Prelude.{◌≡◌, IfOk};
+ghost use Rattle.json.specs.Value.{value_view};
+ghost use Rattle.serde_json.specs.Data.{array, object};
 ghost use Rattle.serde_json.specs.View.{view, items_view as data_items_view, members_view as data_members_view};
-ghost use Rattle.tokei_json_tree.specs.Converted.{IsTreeOf, AreItemsOf, AreMembersOf};
-ghost use Rattle.tokei_json_tree.specs.Ordered.{AreKeysInOrder};
+ghost use Rattle.serde_json.specs.declared.number.Number.{Number as NumberModel};
+ghost use Rattle.serde_json.specs.declared.value.Value.{Number as ANumber};
+ghost use Rattle.tokei_json_tree.specs.Converted.{IsTreeOf};
 
-use crate::tree::{Tree, TreeItems, TreeMembers};
+use crate::tree::Tree;
 use bumpalo::Bump;
 use serde_json::{Map, Value};
 use std::alloc::{AllocError, Global};
+
+/// The tree of a number: its text as `serde_json` writes it.
+fn number_converted<'t>(
+    alloc: Global,
+    bump: &'t Bump,
+    value: &Value,
+) -> Result<Tree<'t>, AllocError>
+    ensures { IfOk result (λ t. (n : NumberModel) → value.now ≡ ANumber n
+        → IsTreeOf (view value.now) (value_view t)) }
+{
+    let text = value.to_string(alloc)?;
+    match bump.try_alloc_str(text.as_str()) {
+        Ok(text) => Ok(json::Value::Number(text)),
+        Err(refused) => Err(refused),
+    }
+}
 
 /// The tree of a value. It fails where memory runs out.
 #[cycle(converted)]
@@ -22,13 +40,10 @@ pub fn converted<'t>(
     match value {
         Value::Null => Ok(json::Value::Null),
         Value::Bool(truth) => Ok(json::Value::Bool(*truth)),
-        Value::Number(_) => {
-            let text = value.to_string(alloc)?;
-            Ok(json::Value::Number(bump.try_alloc_str(text.as_str())?))
-        }
+        Value::Number(_) => number_converted(alloc, bump, value),
         Value::String(text) => Ok(json::Value::String(text.as_str())),
-        Value::Array(items) => Ok(json::Value::Array(items_converted(alloc, bump, items)?)),
-        Value::Object(members) => Ok(json::Value::Object(members_converted(alloc, bump, members)?)),
+        Value::Array(items) => items_converted(alloc, bump, items),
+        Value::Object(members) => members_converted(alloc, bump, members),
     }
 }
 
@@ -37,15 +52,21 @@ fn items_converted<'t>(
     alloc: Global,
     bump: &'t Bump,
     items: &'t Vec<Value>,
-) -> Result<TreeItems<'t>, AllocError>
+) -> Result<Tree<'t>, AllocError>
     ensures { IfOk result
-        (λ v. AreItemsOf (data_items_view items.now.items) (items_view v.items)) }
+        (λ t. IsTreeOf (array (data_items_view items.now.items)) (value_view t)) }
 {
-    let mut made = Vec::with_capacity(bump, items.len())?;
+    let mut made = match Vec::with_capacity(bump, items.len()) {
+        Ok(made) => made,
+        Err(refused) => return Err(refused),
+    };
     for item in items {
-        made.push(converted(alloc, bump, item)?)?;
+        match converted(alloc, bump, item) {
+            Ok(tree) => made.push_reserved(tree),
+            Err(refused) => return Err(refused),
+        }
     }
-    Ok(made)
+    Ok(json::Value::Array(made))
 }
 
 #[cycle(converted)]
@@ -53,14 +74,19 @@ fn members_converted<'t>(
     alloc: Global,
     bump: &'t Bump,
     members: &'t Map<String, Value>,
-) -> Result<TreeMembers<'t>, AllocError>
-    ensures keys { IfOk result (λ v. AreKeysInOrder (members_view v.items)) }
-    ensures value { IfOk result
-        (λ v. AreMembersOf (data_members_view members.now.entries) (members_view v.items)) }
+) -> Result<Tree<'t>, AllocError>
+    ensures { IfOk result
+        (λ t. IsTreeOf (object (data_members_view members.now.entries)) (value_view t)) }
 {
-    let mut made = Vec::with_capacity(bump, members.len())?;
+    let mut made = match Vec::with_capacity(bump, members.len()) {
+        Ok(made) => made,
+        Err(refused) => return Err(refused),
+    };
     for (key, member) in members.iter() {
-        made.push((key.as_str(), converted(alloc, bump, member)?))?;
+        match converted(alloc, bump, member) {
+            Ok(tree) => made.push_reserved((key.as_str(), tree)),
+            Err(refused) => return Err(refused),
+        }
     }
-    Ok(made)
+    Ok(json::Value::Object(made))
 }

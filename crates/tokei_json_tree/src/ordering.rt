@@ -3,6 +3,7 @@ ghost use Rattle.std.specs.Prelude.{◌≡◌, ◌≤◌, true, IfOk, IfSome, ta
 ghost use Rattle.std.specs.Cmp.Lexicographic.{slice_cmp};
 ghost use Rattle.std.specs.Ordering.{nat_cmp};
 ghost use Rattle.std.specs.declared.cmp.Ordering.TheVariants.{Less};
+ghost use Rattle.json.specs.Json.{array, object};
 ghost use Rattle.json.specs.Value.{value_view, items_view, members_view};
 ghost use Rattle.tokei_json_tree.specs.Ordered.{AreBefore, AreKeysInOrder, keys_of};
 ghost use Rattle.tokei_json_tree.specs.Orderings.{IsPut, IsOrderingOf, AreItemsOrderingOf, AreMembersOrderingOf};
@@ -127,34 +128,29 @@ pub fn ordered<'t>(bump: &'t Bump, tree: &Tree<'t>) -> Result<Option<Tree<'t>>, 
                 Ok(None)
             }
         }
-        Value::Array(items) => match items_ordered(bump, items)? {
-            Some(items) => Ok(Some(Value::Array(items))),
-            None => Ok(None),
-        },
-        Value::Object(members) => match members_ordered(bump, members)? {
-            Some(members) => Ok(Some(Value::Object(members))),
-            None => Ok(None),
-        },
+        Value::Array(items) => items_ordered(bump, items),
+        Value::Object(members) => members_ordered(bump, members),
     }
 }
 
 #[cycle(ordered)]
 #[inline(never)]
-fn items_ordered<'t>(
-    bump: &'t Bump,
-    items: &TreeItems<'t>,
-) -> Result<Option<TreeItems<'t>>, AllocError>
+fn items_ordered<'t>(bump: &'t Bump, items: &TreeItems<'t>) -> Result<Option<Tree<'t>>, AllocError>
     ensures { IfOk result (λ found. IfSome found
-        (λ v. AreItemsOrderingOf (items_view items.entry.now.items) (items_view v.items))) }
+        (λ t. IsOrderingOf (array (items_view items.entry.now.items)) (value_view t))) }
 {
-    let mut made = Vec::with_capacity(bump, items.len())?;
+    let mut made = match Vec::with_capacity(bump, items.len()) {
+        Ok(made) => made,
+        Err(refused) => return Err(refused),
+    };
     for item in items {
-        match ordered(bump, item)? {
-            Some(item) => made.push(item)?,
-            None => return Ok(None),
+        match ordered(bump, item) {
+            Ok(Some(item)) => made.push_reserved(item),
+            Ok(None) => return Ok(None),
+            Err(refused) => return Err(refused),
         }
     }
-    Ok(Some(made))
+    Ok(Some(Value::Array(made)))
 }
 
 #[cycle(ordered)]
@@ -162,18 +158,24 @@ fn items_ordered<'t>(
 fn members_ordered<'t>(
     bump: &'t Bump,
     members: &TreeMembers<'t>,
-) -> Result<Option<TreeMembers<'t>>, AllocError>
-    ensures { IfOk result (λ found. IfSome found (λ v.
-        AreMembersOrderingOf (members_view members.entry.now.items) (members_view v.items))) }
+) -> Result<Option<Tree<'t>>, AllocError>
+    ensures { IfOk result (λ found. IfSome found
+        (λ t. IsOrderingOf (object (members_view members.entry.now.items)) (value_view t))) }
 {
-    let mut made = Vec::with_capacity(bump, members.len())?;
+    let mut made = match Vec::with_capacity(bump, members.len()) {
+        Ok(made) => made,
+        Err(refused) => return Err(refused),
+    };
     for member in members {
-        match ordered(bump, &member.1)? {
-            Some(value) => if !put(&mut made, member.0, value)? {
-                return Ok(None);
+        match ordered(bump, &member.1) {
+            Ok(Some(value)) => match put(&mut made, member.0, value) {
+                Ok(true) => {}
+                Ok(false) => return Ok(None),
+                Err(refused) => return Err(refused),
             },
-            None => return Ok(None),
+            Ok(None) => return Ok(None),
+            Err(refused) => return Err(refused),
         }
     }
-    Ok(Some(made))
+    Ok(Some(Value::Object(made)))
 }
