@@ -2,6 +2,7 @@ pub mod Backslashes
 pub mod Characters
 pub mod FilledRows
 pub mod Flaws
+pub mod Kept
 pub mod KeyOrder
 pub mod Left
 pub mod Made
@@ -15,6 +16,8 @@ pub mod NoPairs
 pub mod NumberData
 pub mod Pairs
 pub mod PlainTables
+pub mod Readings
 pub mod Refused
 pub mod RowKinds
 pub mod Utf8
+pub mod Views

@@ -1,10 +1,10 @@
 -- Lists that are pairs, and lists that are none.
-use Rattle.std.proofs.Common.{◌≡◌, ◌<◌, ◌≤◌, List, [], ◌∷◌, length, get_or, false, refl, ap, ◌∙◌, arith}
+use Rattle.std.proofs.Common.{◌≡◌, ◌<◌, ◌≤◌, List, [], ◌∷◌, length, get_or, false, ◌&&◌, refl, ap, ◌∙◌, arith}
 use Rattle.json.specs.Value.{value_view, items_view}
 use Rattle.json.specs.declared.value.Value.{Value}
 use Rattle.tokei_json_tree.specs.TreeData.{data_of, items_data}
 use Rattle.tokei_table_row.specs.Row.{Pair}
-use Rattle.tokei_table_json.specs.Layout.{are_two_texts}
+use Rattle.tokei_table_json.specs.Layout.{are_two_texts, is_text}
 use Rattle.tokei_table_json.specs.Rows.{text_of, two_texts, no_pair}
 
 module _ {A : Type 0} where
@@ -34,3 +34,13 @@ module _ {A : Type 0} where
   just_two (a ∷ []) v w few many e f = absurd (omega (arith, few))
   just_two (a ∷ b ∷ []) v w few many e f = ap (λ x. texts_in x w) e ∙ ap (texts_in a) f
   just_two (a ∷ b ∷ x ∷ vs) v w few many e f = absurd (omega (arith, many))
+
+  -- a list of two is two texts where both of its values are
+  pub both_texts : (vs : List (Value A)) (v w : Value A) → 2 ≤ length vs → length vs < 3 → v ≡ get_or vs 0 v → w ≡ get_or vs 1 w
+      → (is_text (data_of (value_view v)) && is_text (data_of (value_view w))) ≡ are_two_texts (items_data (items_view vs))
+  both_texts [] v w few many e f = absurd (omega (arith, few))
+  both_texts (a ∷ []) v w few many e f = absurd (omega (arith, few))
+  both_texts (a ∷ b ∷ []) v w few many e f =
+      ap (λ x. is_text (data_of (value_view x)) && is_text (data_of (value_view w))) e
+      ∙ ap (λ y. is_text (data_of (value_view a)) && is_text (data_of (value_view y))) f
+  both_texts (a ∷ b ∷ x ∷ vs) v w few many e f = absurd (omega (arith, many))

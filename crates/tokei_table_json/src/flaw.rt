@@ -22,6 +22,7 @@ ghost use Rattle.tokei_table_json.specs.declared.error.TableError.TheVariants.{F
 use crate::error::TableError;
 use crate::escaped::is_escaped_table;
 use crate::layout::has_layout;
+use crate::members::{Member, member_of};
 use crate::misfits::{misescaped_language, unfit_language};
 use crate::reading::{test, text_of};
 use crate::rows::rows_of;
@@ -49,13 +50,12 @@ pub struct TableFlaw {
 
 /// What a member of a language has to hold, in words.
 fn form_of(member: &str) -> &str {
-    match member {
-        "name" | "kind" => "text",
-        "nested" | "literate" | "blank" => "truth value",
-        "multi_line_comments" | "nested_comments" | "quotes" => "list of pairs of texts",
-        "verbatim_quotes" | "doc_quotes" => "list of pairs of texts",
-        "contexts" => "list of objects, each with a tag in a language of kind 'html'",
-        _ => "list of texts",
+    match member_of(member) {
+        Member::Name | Member::Kind => "text",
+        Member::Truth(_) => "truth value",
+        Member::Pairs(_) => "list of pairs of texts",
+        Member::Contexts => "list of objects, each with a tag in a language of kind 'html'",
+        Member::Texts(_) | Member::Other => "list of texts",
     }
 }
 

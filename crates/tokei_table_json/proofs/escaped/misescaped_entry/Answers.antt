@@ -3,7 +3,7 @@ use Rattle.std.specs.Prelude.{not}
 use Rattle.json.proofs.Trees.{view-Object}
 use Rattle.json.specs.Json as json
 use Rattle.json.specs.Value.{value_view, members_view}
-use Rattle.tokei_json_tree.specs.Ordered.{IsOrdered}
+use Rattle.tokei_json_tree.specs.Ordered.{IsOrdered, AreMembersOrdered}
 use Rattle.tokei_json_tree.specs.TreeData.{members_data}
 use Rattle.tokei_table_json.specs.Escaped.{are_escaped_languages, is_escaped_language}
 use Rattle.tokei_table_json.proofs.Left.{member_ordered, member_passes, member_fails, members_pass}
@@ -36,3 +36,9 @@ returns c =
     sym (ap (λ xs. not (are_escaped_languages (members_data (members_view xs)))) (sym c.deref-entry-items.ensures.value)
     ∙ ap not (members_pass are_escaped_languages (λ k d. is_escaped_language d) (λ k d ms. refl) c.deref-entry-items.result.now c.loop-entry.entry-index c.loop-entry.invariant
     c.loop-entry-test.false refl))
+
+pub loop-entry-init : goal.loop-entry-init
+loop-entry-init c = record {
+  ordered = subst (λ ys. AreMembersOrdered (members_view ys)) (sym c.deref-entry-items.ensures.value) c.requires;
+  value = refl;
+}

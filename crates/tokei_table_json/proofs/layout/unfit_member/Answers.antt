@@ -1,9 +1,10 @@
-use Rattle.std.proofs.Common.{refl, sym, ap, ◌∙◌}
+use Rattle.std.proofs.Common.{refl, sym, ap, ◌∙◌, subst}
 use Rattle.std.specs.Prelude.{not}
 use Rattle.json.specs.Value.{members_view}
 use Rattle.tokei_json_tree.specs.TreeData.{members_data}
 use Rattle.tokei_table_json.specs.MemberLayout.{all_members, fits}
 use Rattle.tokei_table_json.proofs.Left.{member_ordered, member_passes, member_fails, members_pass}
+use Rattle.tokei_json_tree.specs.Ordered.{AreMembersOrdered}
 use Rattle.tokei_table_json.proofs.layout.unfit_member.Goals as goal
 
 pub fits-requires : goal.fits-requires
@@ -28,3 +29,9 @@ returns c =
     sym (ap (λ xs. not (all_members test (members_data (members_view xs)))) (sym c.deref-entry-items.ensures.value)
     ∙ ap not (members_pass (all_members test) test (λ k d ms. refl) c.deref-entry-items.result.now c.loop-entry.entry-index c.loop-entry.invariant
     c.loop-entry-test.false refl))
+
+pub loop-entry-init : goal.loop-entry-init
+loop-entry-init c = record {
+  ordered = subst (λ ys. AreMembersOrdered (members_view ys)) (sym c.deref-entry-items.ensures.value) c.requires;
+  value = refl;
+}

@@ -1,10 +1,11 @@
-use Rattle.std.proofs.Common.{◌+◌, drop, sym, ap, ◌∙◌}
+use Rattle.std.proofs.Common.{◌+◌, drop, sym, ap, ◌∙◌, subst, refl}
 use Rattle.std.proofs.lemmas.List.{drop_all}
 use Rattle.json.specs.Value.{members_view}
 use Rattle.tokei_json_tree.specs.TreeData.{members_data}
 use Rattle.tokei_table_row.specs.RowOf.{row_of}
 use Rattle.tokei_table_json.specs.Filled.{filled}
 use Rattle.tokei_table_json.proofs.Left.{members_here, member_ordered, members_ordered}
+use Rattle.tokei_json_tree.specs.Ordered.{AreMembersOrdered}
 use Rattle.tokei_table_json.proofs.rows.read_members.Goals as goal
 
 pub read_member-requires : goal.read_member-requires
@@ -30,3 +31,9 @@ returns c =
     sym (ap (λ ys. filled c.args.html (members_data (members_view ys)) (row_of l.row)) (drop_all l.entry-index xs c.loop-entry-test.false))
     ∙ l.invariant.value
     ∙ ap (λ ys. filled c.args.html (members_data (members_view ys)) (row_of c.args.row.now)) c.deref-entry-items.ensures.value
+
+pub loop-entry-init : goal.loop-entry-init
+loop-entry-init c = record {
+  ordered = subst (λ ys. AreMembersOrdered (members_view ys)) (sym c.deref-entry-items.ensures.value) c.requires;
+  value = refl;
+}

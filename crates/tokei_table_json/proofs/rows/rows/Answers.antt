@@ -1,13 +1,14 @@
 use Rattle.std.proofs.Common.{◌∙◌, ap, subst, sym}
 use Rattle.std.proofs.lemmas.List.{drop_all}
 use Rattle.json.specs.Value.{value_view, members_view}
+use Rattle.tokei_json_tree.specs.Ordered.{AreMembersOrdered}
 use Rattle.tokei_json_tree.specs.TreeData.{data_of, members_data}
 use Rattle.tokei_table_row.specs.RowOf.{row_of}
 use Rattle.tokei_table.specs.KeyOrder.{IsInKeyOrder}
 use Rattle.tokei_table_json.specs.Rows.{row_in, rows_in}
 use Rattle.tokei_table_json.proofs.KeyOrder.{in_key_order}
 use Rattle.tokei_table_json.proofs.Left.{members_here, member_ordered, members_ordered}
-use Rattle.tokei_table_json.proofs.Made.{one_made, all_made}
+use Rattle.tokei_table_json.proofs.Made.{none_made, one_made, all_made}
 use Rattle.tokei_table_json.proofs.MembersOnce.{in_order}
 use Rattle.tokei_table_json.proofs.rows.rows.Goals as goal
 
@@ -39,3 +40,11 @@ pub returns-clause-ordered : goal.returns-clause-ordered
 returns-clause-ordered c =
     let ms = members_view c.args.members.now.items in
     subst IsInKeyOrder (sym (returns-clause-value c)) (in_key_order (members_data ms) (in_order ms c.requires.keys))
+
+pub loop-entry-init : goal.loop-entry-init
+loop-entry-init c =
+    let xs = c.deref-entry-items.result.now in
+    record {
+      ordered = subst (λ ys. AreMembersOrdered (members_view ys)) (sym c.deref-entry-items.ensures.value) c.requires.ordered;
+      value = none_made row_of c.in_ok-out.out.items (rows_in (members_data (members_view xs))) c.in_ok-out.ensures.items;
+    }

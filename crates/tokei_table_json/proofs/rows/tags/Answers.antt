@@ -1,11 +1,12 @@
-use Rattle.std.proofs.Common.{ap, string_bytes, ◌∙◌, codes}
+use Rattle.std.proofs.Common.{ap, sym, subst, string_bytes, ◌∙◌, codes}
 use Rattle.std.proofs.lemmas.List.{drop_all}
 use Rattle.json.specs.Value.{value_view, items_view}
 use Rattle.serde_json.specs.Find.{get}
+use Rattle.tokei_json_tree.specs.Ordered.{AreItemsOrdered}
 use Rattle.tokei_json_tree.specs.TreeData.{data_of, items_data}
 use Rattle.tokei_table_json.specs.Rows.{text_at, tags_in}
 use Rattle.tokei_table_json.proofs.Left.{items_here, item_ordered, items_ordered}
-use Rattle.tokei_table_json.proofs.Made.{one_made, all_made}
+use Rattle.tokei_table_json.proofs.Made.{none_made, one_made, all_made}
 use Rattle.tokei_table_json.proofs.rows.tags.Goals as goal
 
 pub tag-requires : goal.tag-requires
@@ -31,3 +32,11 @@ returns c =
     all_made string_bytes l.out.items _ _ l.invariant.value
     (ap (λ ys. tags_in (items_data (items_view ys))) (drop_all l.item-index xs c.loop-item-test.false))
     ∙ ap (λ ys. tags_in (items_data (items_view ys))) c.deref-item-items.ensures.value
+
+pub loop-item-init : goal.loop-item-init
+loop-item-init c =
+    let xs = c.deref-item-items.result.now in
+    record {
+      ordered = subst (λ ys. AreItemsOrdered (items_view ys)) (sym c.deref-item-items.ensures.value) c.requires;
+      value = none_made string_bytes c.in_ok-out.out.items (tags_in (items_data (items_view xs))) c.in_ok-out.ensures.items;
+    }
