@@ -22,6 +22,7 @@ pub mod NewlineHere
 pub mod NoChild
 pub mod OneItem
 pub mod OpenersInLines
+pub mod OpeningLists
 pub mod PartFronts
 pub mod PartReading
 pub mod PartWhole

@@ -1,4 +1,4 @@
-use Rattle.std.proofs.Common.{◌≡◌, ℕ, List, None, Some, ◌-◌, drop, take, false, refl, sym, ap, ◌∙◌}
+use Rattle.std.proofs.Common.{◌≡◌, ℕ, List, None, Some, ◌-◌, drop, take, false, refl, sym, ap, ◌∙◌, lt_of_lt_of_le}
 use Rattle.tokei_table.specs.Row.{Row}
 use Rattle.tokei_parts.specs.Class.{class_of}
 use Rattle.tokei_parts.specs.Items.{Mode, kind_in}
@@ -88,3 +88,6 @@ returns-in_default c = λ m is.
     let r : Reading = c.args.reading.now in
     c.class_by_all.ensures m is
     ∙ ap (λ (n : Mode). class_of (row_in r) r.docs_are_comments (record { begun = m; bytes = part_bytes r c.args.start c.args.stop; ended = n })) (mode_of_item c.args.ended)
+
+pub bounds-reading-front : goal.bounds-reading-front
+bounds-reading-front c = lt_of_lt_of_le (c.is_solid_at-then-not-is_doc_string-2.ensures.place c.if-is_solid_at-2.true) c.requires.within

@@ -3,6 +3,7 @@ use Rattle.tokei_parts.specs.Class.{in_comment}
 use Rattle.tokei_parts.specs.Modes.{Chain, innermost}
 use Rattle.tokei_parts.specs.NestedLine.{IsTurn, turned}
 use Rattle.tokei_parts.specs.Places.{IsAt, text_of}
+use Rattle.tokei_parts.specs.Progress.{IsClosable}
 use Rattle.tokei_parts.specs.PlainBytes.{IsPlainByte}
 use Rattle.tokei_parts.specs.Reached.{part_stop}
 use Rattle.tokei_parts.specs.ReadingOf.{row_in, blocks_of}
@@ -99,3 +100,12 @@ returns-clause-reads c =
     e p.start (text_of p) (part_stop p - p.start - (turn.len - 1)) Comment (part_stop p)) (sym c.in_ok-take_turn.ensures)
     (nested_is p (chain_here d.After-deref-2) c.requires.begins c.requires.closable (commented d.After-deref-2) c.item_end-plain.result c.item_end-plain.ensures.low c.if-part-plain.false
     (front d.After-deref-2) last turn.len turns_there.goes again rest c.requires.some))
+
+pub turn_at-requires-clause-closable : goal.turn_at-requires-clause-closable
+turn_at-requires-clause-closable c = subst (λ es. IsClosable (chain_of es)) (sym c.deref-2.ensures.value) c.requires.closable
+
+pub turn_at-requires-clause-some : goal.turn_at-requires-clause-some
+turn_at-requires-clause-some c = c.if-part-plain.false
+
+pub overflow_sub-steps-2 : goal.overflow_sub-steps-2
+overflow_sub-steps-2 c = (turns (goal.at.overflow_sub-steps-2 c).Else-not-is_comment-2).goes.some

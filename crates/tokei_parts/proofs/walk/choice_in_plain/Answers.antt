@@ -1,7 +1,9 @@
-use Rattle.std.proofs.Common.{◌≡◌, ℕ, ◌-◌, true, false, Option, None, List, Bool, is_some, take, drop, length, ap, ◌∙◌, refl}
+use Rattle.std.proofs.Common.{◌≡◌, ℕ, ◌-◌, true, false, Option, None, List, Bool, is_some, take, drop, length, ap, ◌∙◌, refl, sym}
 use Rattle.tokei_parts.specs.Choice.{choice}
 use Rattle.tokei_parts.specs.Items.{Block}
+use Rattle.tokei_parts.specs.Matchers.{Matchers}
 use Rattle.tokei_parts.specs.Places.{block_here, text_of}
+use Rattle.tokei_parts.specs.PlainOpenings.{openings}
 use Rattle.tokei_parts.specs.ReadingOf.{row_in}
 use Rattle.tokei_parts.specs.SeenChoices.{choice_of}
 use Rattle.tokei_parts.specs.declared.choice.Choice as CodeChoice
@@ -28,3 +30,6 @@ returns-clause-choice c =
     ∙ ap (choice (row_in c.args.place.now.reading.now) None o) (rest_is at text) in
     by_opens (row_in c.args.place.now.reading.now) (block_here c.args.place.now) u c.choose_in_plain.result c.args.opens
     c.requires.child c.requires.childless (λ o e. c.choose_in_plain.ensures.choice o e ∙ here o)
+
+pub choose_in_plain-requires : goal.choose_in_plain-requires
+choose_in_plain-requires c = record { matched = ap (λ (m : Matchers). m.openings) c.args.place.now.reading.now.matched ∙ sym (ap openings c.args.place.now.reading.now.row) }

@@ -15,3 +15,11 @@ returns-clause-goes_on c = λ last is chain reaches.
     (λ q low less. subst (λ m. IsPlainByte p.reading.now.matchers.now m (slice_index (text_of p) q)) (sym is)
     (c.requires.plain q low (omega (arith, c.saturating_sub-bytes.ensures, low, less))))
     (λ none q low less. c.requires.childless (sym is ∙ none) q low (omega (arith, c.saturating_sub-bytes.ensures, low, less)))
+
+pub returns-clause-high : goal.returns-clause-high
+returns-clause-high c = omega (
+  arith,
+  c.saturating_sub-bytes.ensures,
+  c.requires.some,
+  plain_high c.args.reach.now.at c.args.to c.args.part.now.end c.requires.some c.requires.within,
+)
