@@ -15,6 +15,7 @@ pub mod NoPatterns
 pub mod Noting
 pub mod Over
 pub mod Ranking
+pub mod Refusals
 pub mod RootSteps
 pub mod RuleFiles
 pub mod StackSteps

@@ -7,6 +7,7 @@ use Rattle.tokei_walk.proofs.RuleFiles.{tokeignore_told, ignore_told, gitignore_
 use Rattle.tokei_walk.proofs.Growing.{grows_on}
 use Rattle.tokei_walk.proofs.Lasting.{lasts, answers, refused}
 use Rattle.tokei_walk.proofs.Noting.{sought_noted}
+use Rattle.tokei_walk.proofs.Refusals.{refuses_none}
 use Rattle.tokei_walk.proofs.rules_files.read_sought.Goals as goal
 
 pub returns-clause-told : goal.returns-clause-told
@@ -45,3 +46,36 @@ pub returns-clause-noted : goal.returns-clause-noted
 returns-clause-noted g c = λ t e.
     sought_noted t c.args.sought (names_of c.args.place.now) _ _ _ (c.in_ok-tokeignore.ensures.noted t e)
     (c.in_ok-gitignore.ensures.noted t (c.patterns_of_two.ensures.folders.same ∙ e))
+
+pub returns-in_err-gitignore-clause-last : goal.returns-in_err-gitignore-clause-last
+returns-in_err-gitignore-clause-last g c = refuses_none _ _ c.from_residual-in_err-gitignore.ensures.0
+
+pub returns-in_err-gitignore-clause-told : goal.returns-in_err-gitignore-clause-told
+returns-in_err-gitignore-clause-told g c = λ t e. refuses_none _ _ c.from_residual-in_err-gitignore.ensures.0
+
+pub returns-in_err-gitignore-clause-noted : goal.returns-in_err-gitignore-clause-noted
+returns-in_err-gitignore-clause-noted g c = λ t e. refuses_none _ _ c.from_residual-in_err-gitignore.ensures.0
+
+pub returns-in_err-push-clause-last : goal.returns-in_err-push-clause-last
+returns-in_err-push-clause-last g c = refuses_none _ _ c.from_residual-in_err-push.ensures.0
+
+pub returns-in_err-push-clause-told : goal.returns-in_err-push-clause-told
+returns-in_err-push-clause-told g c = λ t e. refuses_none _ _ c.from_residual-in_err-push.ensures.0
+
+pub returns-in_err-push-clause-noted : goal.returns-in_err-push-clause-noted
+returns-in_err-push-clause-noted g c = λ t e. refuses_none _ _ c.from_residual-in_err-push.ensures.0
+
+pub returns-in_err-tokeignore-clause-folders : goal.returns-in_err-tokeignore-clause-folders
+returns-in_err-tokeignore-clause-folders g c = refused c.from_residual.ensures.0 c.patterns_of_two.ensures.folders.same
+
+pub returns-in_err-tokeignore-clause-notes : goal.returns-in_err-tokeignore-clause-notes
+returns-in_err-tokeignore-clause-notes g c = c.patterns_of_two.ensures.notes
+
+pub returns-in_err-tokeignore-clause-last : goal.returns-in_err-tokeignore-clause-last
+returns-in_err-tokeignore-clause-last g c = refuses_none _ _ c.from_residual.ensures.0
+
+pub returns-in_err-tokeignore-clause-told : goal.returns-in_err-tokeignore-clause-told
+returns-in_err-tokeignore-clause-told g c = λ t e. refuses_none _ _ c.from_residual.ensures.0
+
+pub returns-in_err-tokeignore-clause-noted : goal.returns-in_err-tokeignore-clause-noted
+returns-in_err-tokeignore-clause-noted g c = λ t e. refuses_none _ _ c.from_residual.ensures.0

@@ -1,5 +1,7 @@
-use Rattle.std.proofs.Common.{◌≡◌, ◌++◌, ◌∷◌, [], ℕ, List, Option, None, Ok, Err, sym, ap, ap₂, ◌∙◌, subst}
+use Rattle.std.proofs.Common.{◌≡◌, ◌++◌, ◌∷◌, [], ℕ, List, Option, None, Ok, Err, sym, ap, ap₂, ◌∙◌, subst, refl}
 use Rattle.std.specs.Prelude.{MatchOption}
+use Rattle.std.proofs.lemmas.Bool.{false≢true}
+use Rattle.std.proofs.lemmas.Result.{IfOk-from_err}
 use Rattle.tokei_folders.specs.declared.fs.Listing.{Listing}
 use Rattle.tokei_folders.specs.declared.fs.Fault.TheVariants.{Refused}
 use Rattle.tokei_folders.specs.Answers.{list_answer}
@@ -103,3 +105,39 @@ returns-clause-noted g c = λ t e.
     ap₂ (λ (s : Sought) (p : List ℕ). noted_of t s (names_of p)) sought (c.as_str-place.ensures ∙ c.in_ok-push_folder.ensures.place)
     ∙ listed_noted t r (names_of place) c.in-Some.listing.entries.items listed_here in
     says_what _ _ _ _ level (says_on _ _ _ [] _ quiet (c.in_ok-read_sought.ensures.noted t (c.listing.ensures.folders.same ∙ e)))
+
+pub returns-clause-refused : goal.returns-clause-refused
+returns-clause-refused g c = λ q. absurd (false≢true (sym q))
+
+pub returns-in_default-clause-entered : goal.returns-in_default-clause-entered
+returns-in_default-clause-entered g c = λ q. absurd (false≢true q)
+
+pub returns-in_default-clause-refused : goal.returns-in_default-clause-refused
+returns-in_default-clause-refused g c = λ q. refl
+
+pub returns-in_default-clause-notes : goal.returns-in_default-clause-notes
+returns-in_default-clause-notes g c = c.listing.ensures.notes
+
+pub returns-in_err-read_sought-clause-told : goal.returns-in_err-read_sought-clause-told
+returns-in_err-read_sought-clause-told g c = λ t e. IfOk-from_err _ _ c.from_residual-in_err-read_sought.ensures.0
+
+pub returns-in_err-read_sought-clause-noted : goal.returns-in_err-read_sought-clause-noted
+returns-in_err-read_sought-clause-noted g c = λ t e. IfOk-from_err _ _ c.from_residual-in_err-read_sought.ensures.0
+
+pub returns-in_err-read_sought-clause-entered : goal.returns-in_err-read_sought-clause-entered
+returns-in_err-read_sought-clause-entered g c = IfOk-from_err _ _ c.from_residual-in_err-read_sought.ensures.0
+
+pub returns-in_err-read_sought-clause-refused : goal.returns-in_err-read_sought-clause-refused
+returns-in_err-read_sought-clause-refused g c = IfOk-from_err _ _ c.from_residual-in_err-read_sought.ensures.0
+
+pub returns-in_err-push_folder-clause-told : goal.returns-in_err-push_folder-clause-told
+returns-in_err-push_folder-clause-told g c = λ t e. IfOk-from_err _ _ c.from_residual-in_err-push_folder.ensures.0
+
+pub returns-in_err-push_folder-clause-noted : goal.returns-in_err-push_folder-clause-noted
+returns-in_err-push_folder-clause-noted g c = λ t e. IfOk-from_err _ _ c.from_residual-in_err-push_folder.ensures.0
+
+pub returns-in_err-push_folder-clause-entered : goal.returns-in_err-push_folder-clause-entered
+returns-in_err-push_folder-clause-entered g c = IfOk-from_err _ _ c.from_residual-in_err-push_folder.ensures.0
+
+pub returns-in_err-push_folder-clause-refused : goal.returns-in_err-push_folder-clause-refused
+returns-in_err-push_folder-clause-refused g c = IfOk-from_err _ _ c.from_residual-in_err-push_folder.ensures.0

@@ -1,5 +1,6 @@
-use Rattle.std.proofs.Common.{◌≡◌, ◌<◌, ℕ, List, length, Bool, true, false, Option, OnSome, refl, ◌∙◌, subst}
+use Rattle.std.proofs.Common.{◌≡◌, ◌<◌, ℕ, List, length, Bool, true, false, Option, OnSome, refl, ◌∙◌, subst, sym}
 use Rattle.std.specs.Prelude.{IfSome}
+use Rattle.std.proofs.lemmas.Bool.{false≢true}
 use Rattle.tokei_folders.specs.Places.{joined}
 use Rattle.tokei_walk.specs.declared.stack.Stack.{Stack}
 use Rattle.tokei_walk.specs.Levels.{under, drops}
@@ -77,3 +78,18 @@ returns-clause-met g c = λ t e.
 
 pub returns-in_default-clause-met : goal.returns-in_default-clause-met
 returns-in_default-clause-met g c = λ t e. c.in_ok-place.ensures.met c.in_default.is t
+
+pub returns-clause-entered : goal.returns-clause-entered
+returns-clause-entered g c = λ q. absurd (false≢true q)
+
+pub returns-in_default-clause-entered : goal.returns-in_default-clause-entered
+returns-in_default-clause-entered g c = λ q. absurd (false≢true q)
+
+pub returns-then-branch-clause-refused : goal.returns-then-branch-clause-refused
+returns-then-branch-clause-refused g c = λ q. absurd (false≢true (sym q))
+
+pub returns-clause-shallow : goal.returns-clause-shallow
+returns-clause-shallow g c = λ q. absurd (false≢true q)
+
+pub returns-in_default-clause-shallow : goal.returns-in_default-clause-shallow
+returns-in_default-clause-shallow g c = λ q. absurd (false≢true q)

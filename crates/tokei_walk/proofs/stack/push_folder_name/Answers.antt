@@ -1,4 +1,6 @@
 use Rattle.std.proofs.Common.{◌≤◌, [], ℕ, List, length, sym, ap, ap₂, ◌∙◌, arith, refl}
+use Rattle.std.proofs.lemmas.Option.{none-some}
+use Rattle.std.proofs.lemmas.Result.{IfOk-from_err}
 use Rattle.tokei_folders.specs.Places.{joined}
 use Rattle.tokei_walk.specs.declared.levels.Context.{Context}
 use Rattle.tokei_walk.specs.Levels.{under}
@@ -72,3 +74,33 @@ returns-then-len-ge-MAX_DEPTH-clause-met c = λ q t.
     (visit_deep x.excludes x.rules t s name (joined s.place name) (sym c.in_ok-dropped.ensures.dropped ∙ c.if-dropped.false) deep
     ∙ ap (λ (p : List ℕ). met_note TooDeep p) (sym place))
     (says_more _ _ _ c.in_ok-push.ensures.ok)
+
+pub returns-clause-same : goal.returns-clause-same
+returns-clause-same c = λ q. absurd (none-some _ (sym q))
+
+pub returns-clause-met : goal.returns-clause-met
+returns-clause-met c = λ q. absurd (none-some _ (sym q))
+
+pub returns-in_err-push_name-clause-met : goal.returns-in_err-push_name-clause-met
+returns-in_err-push_name-clause-met c = IfOk-from_err _ _ c.from_residual-in_err-push_name.ensures.0
+
+pub returns-in_err-push_name-clause-named : goal.returns-in_err-push_name-clause-named
+returns-in_err-push_name-clause-named c = IfOk-from_err _ _ c.from_residual-in_err-push_name.ensures.0
+
+pub returns-in_err-push_name-clause-same : goal.returns-in_err-push_name-clause-same
+returns-in_err-push_name-clause-same c = IfOk-from_err _ _ c.from_residual-in_err-push_name.ensures.0
+
+pub returns-in_err-push_name-clause-quiet : goal.returns-in_err-push_name-clause-quiet
+returns-in_err-push_name-clause-quiet c = IfOk-from_err _ _ c.from_residual-in_err-push_name.ensures.0
+
+pub returns-in_err-push-clause-met : goal.returns-in_err-push-clause-met
+returns-in_err-push-clause-met c = IfOk-from_err _ _ c.from_residual-in_err-push.ensures.0
+
+pub returns-in_err-push-clause-named : goal.returns-in_err-push-clause-named
+returns-in_err-push-clause-named c = IfOk-from_err _ _ c.from_residual-in_err-push.ensures.0
+
+pub returns-in_err-push-clause-same : goal.returns-in_err-push-clause-same
+returns-in_err-push-clause-same c = IfOk-from_err _ _ c.from_residual-in_err-push.ensures.0
+
+pub returns-in_err-push-clause-quiet : goal.returns-in_err-push-clause-quiet
+returns-in_err-push-clause-quiet c = IfOk-from_err _ _ c.from_residual-in_err-push.ensures.0

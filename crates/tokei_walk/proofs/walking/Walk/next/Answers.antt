@@ -1,4 +1,5 @@
 use Rattle.std.proofs.Common.{Ok, refl, sym, ap, ◌∙◌}
+use Rattle.std.proofs.lemmas.Bool.{false≢true}
 use Rattle.tokei_walk.specs.Met.{files_in}
 use Rattle.tokei_walk.specs.Notes.{notes_of}
 use Rattle.tokei_walk.specs.Ranks.{rank}
@@ -6,6 +7,8 @@ use Rattle.tokei_walk.specs.Walks.{has_failed, met_to_come, noted_to_come, to_co
 use Rattle.tokei_walk.proofs.Meeting.{advances, notes_come}
 use Rattle.tokei_walk.proofs.MetRoots.{no_roots, to_come_left, walk_meets}
 use Rattle.tokei_walk.proofs.Over.{over_gives, not_failed, spent_over}
+use Rattle.tokei_walk.proofs.Growing.{grows_same}
+use Rattle.tokei_walk.proofs.Lasting.{answers}
 use Rattle.tokei_walk.proofs.walking.Walk.next.Goals as goal
 
 pub returns-then-is_over-clause-told : goal.returns-then-is_over-clause-told
@@ -23,7 +26,7 @@ returns-clause-stays g c = sym (not_failed c.args.self.now (sym c.is_over.ensure
 
 pub returns-clause-failed : goal.returns-clause-failed
 unfolding has_failed
-returns-clause-failed g c = λ h. let live = not_failed c.args.self.now (sym c.is_over.ensures ∙ c.if-is_over.false) in absurd (cc)
+returns-clause-failed g c = λ h. absurd (false≢true (sym (not_failed c.args.self.now (sym c.is_over.ensures ∙ c.if-is_over.false)) ∙ h))
 
 pub returns-in_err-found-clause-notes : goal.returns-in_err-found-clause-notes
 unfolding notes_of
@@ -39,7 +42,7 @@ returns-clause-fewer g c = c.in_ok-found.ensures.fewer
 
 pub returns-in_err-found-clause-failed : goal.returns-in_err-found-clause-failed
 unfolding has_failed
-returns-in_err-found-clause-failed g c = λ h. let live = not_failed c.args.self.now (sym c.is_over.ensures ∙ c.if-is_over.false) in absurd (cc)
+returns-in_err-found-clause-failed g c = λ h. absurd (false≢true (sym (not_failed c.args.self.now (sym c.is_over.ensures ∙ c.if-is_over.false)) ∙ h))
 
 pub returns-then-is_over-clause-met : goal.returns-then-is_over-clause-met
 returns-then-is_over-clause-met g c = λ t e. refl
@@ -70,3 +73,12 @@ unfolding to_come files_in
 returns-clause-ended g c = λ q t.
     let ends = c.in_ok-found.ensures.ended q in
     ap files_in (to_come_left t _ refl ∙ no_roots _ _ t _ _ ends.0 ends.1 ends.2)
+
+pub returns-clause-again : goal.returns-clause-again
+returns-clause-again g c = λ h. absurd (false≢true (sym (sym c.is_over.ensures ∙ c.if-is_over.false) ∙ h))
+
+pub returns-then-is_over-clause-notes : goal.returns-then-is_over-clause-notes
+returns-then-is_over-clause-notes g c = grows_same _ _ refl
+
+pub returns-clause-folders : goal.returns-clause-folders
+returns-clause-folders g c = answers c.in_ok-found.ensures.folders
