@@ -209,15 +209,17 @@ fn answer_words<F: Folders, S: Source, W: Sink>(
 /// What is asked for goes to `out`, and what is to be said beside it to `err`.
 ///
 /// With status 0 `out` has gained, over a known tree, help, the version, or what the command line
-/// of the words asks for: the list of languages, or what `run` writes for its job. Over other
-/// folders, as the system's, it has gained the list of some table's languages, or what a run writes
-/// for a job of that command line over some languages. `err` has gained nothing, or notes of what
-/// was passed over and of configuration files that count as empty, as many as the command line
-/// shows. A refused command line is seen before anything is read or written. Any other status than
-/// 1 says that neither writer had a fault. Where the status is 1 and `err` had no fault, one
-/// message stands in it; where `out` had none, it has over a known tree what it held, all of what
-/// was asked for, or the heading of a stream and the rows of the first files, and nothing else. Once
-/// a run has begun, the memory of its table isn't given back, since the process mostly ends next.
+/// of the words asks for: the list of languages, or what `run` writes for its job. Over folders
+/// that tell no tree a writer whose contents are known has gained help, the version, the list of
+/// some table's languages, or what a run writes for a job of that command line over some languages;
+/// the system's writer tells no contents, so of it this says nothing. `err` has gained nothing, or
+/// notes of what was passed over and of configuration files that count as empty, as many as the
+/// command line shows. A refused command line is seen before anything is read or written. Any other
+/// status than 1 says that neither writer had a fault. Where the status is 1 and `err` had no
+/// fault, one message stands in it; where `out` had none, it has over a known tree what it held,
+/// all of what was asked for, or the heading of a stream and the rows of the first files, and
+/// nothing else. Once a run has begun, the memory of its table isn't given back, since the process
+/// mostly ends next.
 pub fn program<F: Folders, S: Source, W: Sink, E: Sink>(
     alloc: Global,
     words: &[&str],
