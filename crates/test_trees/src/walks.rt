@@ -7,8 +7,8 @@ use tokei_walk::{KeptFile, Note, Rules, Walk, kept_files};
 
 /// The members of these rows: a tree, roots, excludes, and the rules that aren't asked for. Where
 /// they are `unnamed`, each folder has a name more, which isn't UTF-8. `kept` are the files and
-/// then the notes, a line for each; `calls` and `reads` are how many calls reach the folders, and
-/// how many of these read a file.
+/// then the notes, a line for each, and `met` are both in the order in which a walk meets them;
+/// `calls` and `reads` are how many calls reach the folders, and how many of these read a file.
 pub const MEMBERS: Members = Members {
     given: &[
         "files",
@@ -22,7 +22,7 @@ pub const MEMBERS: Members = Members {
         "unnamed",
     ],
     wanted: &["kept"],
-    optional: &["calls", "reads"],
+    optional: &["calls", "reads", "met"],
     by_table: false,
 };
 
@@ -87,25 +87,48 @@ fn say_kept<F: Folders>(folders: &mut F, wanted: &Wanted, answers: &mut Answers)
     answers.done(made);
 }
 
-/// Adds the files and notes that a walk answers, one call after the other, up to ten thousand.
-fn put_steps<F: Folders>(folders: &mut F, walk: &mut Walk, page: &mut Page, answers: &mut Answers) {
+/// Adds the notes that stand behind the first `seen` ones, and answers how many there are.
+fn put_new_notes(page: &mut Page, notes: &[Note], seen: usize) -> usize {
+    if seen < notes.len() {
+        put_notes(page, &notes[seen..]);
+    }
+    notes.len()
+}
+
+/// Adds the files and notes that a walk answers, one call after the other, up to ten thousand: to
+/// `kept` the files and then the notes, and to `met` each note before the file whose call left it.
+fn put_steps<F: Folders>(
+    folders: &mut F,
+    walk: &mut Walk,
+    kept: &mut Page,
+    met: &mut Page,
+    answers: &mut Answers,
+) {
+    let mut seen = 0;
     for _ in 0..10_000 {
-        match answers.read(walk.next(folders), None) {
-            Some(file) => put_file(page, &file),
+        let found = answers.read(walk.next(folders), None);
+        seen = put_new_notes(met, walk.notes(), seen);
+        match found {
+            Some(file) => {
+                put_file(kept, &file);
+                put_file(met, &file);
+            }
             None => break,
         }
     }
-    put_notes(page, walk.notes());
+    put_notes(kept, walk.notes());
 }
 
-/// Says the files and notes that a walk answers, which have to be the same.
+/// Says the files and notes that a walk answers: the same as `kept_files` does, and in which order.
 fn say_walked<F: Folders>(folders: &mut F, wanted: &Wanted, answers: &mut Answers) {
     let (roots, excludes) = (wanted.roots.as_slice(), wanted.excludes.as_slice());
     let mut made = Walk::new(answers.alloc, roots, excludes, &wanted.rules);
     if let Ok(walk) = &mut made {
-        let mut page = Page::new(answers.alloc);
-        put_steps(folders, walk, &mut page, answers);
-        answers.say_page("kept", &page);
+        let mut kept = Page::new(answers.alloc);
+        let mut met = Page::new(answers.alloc);
+        put_steps(folders, walk, &mut kept, &mut met, answers);
+        answers.say_page("kept", &kept);
+        answers.say_page("met", &met);
     }
     answers.done(made);
 }
