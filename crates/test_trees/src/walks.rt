@@ -96,7 +96,8 @@ fn put_new_notes(page: &mut Page, notes: &[Note], seen: usize) -> usize {
 }
 
 /// Adds the files and notes that a walk answers, one call after the other, up to ten thousand: to
-/// `kept` the files and then the notes, and to `met` each note before the file whose call left it.
+/// `kept` the files and then the notes, and to `met` each note before the file whose call left it:
+/// those that stand from the beginning before the first file, those of the last call at the end.
 fn put_steps<F: Folders>(
     folders: &mut F,
     walk: &mut Walk,

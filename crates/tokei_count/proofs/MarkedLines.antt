@@ -55,7 +55,9 @@ solid_marked is_mark (b ∷ t) = by_test (is_blank b) (solid_marked is_mark t)
     by_test false ih = refl
 
 -- the marks of the first line, at most one, and of the others
-marks_line : (is_mark : ℕ → Bool) (u : List ℕ) (blank : Bool) → mark_count is_mark blank u ≡ cond blank (flag (front_marked is_mark (first_line u))) 0 + mark_count is_mark true (drop (length (first_line u)) u)
+marks_line : (is_mark : ℕ → Bool) (u : List ℕ) (blank : Bool)
+    → mark_count is_mark blank u
+    ≡ cond blank (flag (front_marked is_mark (first_line u))) 0 + mark_count is_mark true (drop (length (first_line u)) u)
 marks_line is_mark [] true = refl
 marks_line is_mark [] false = refl
 marks_line is_mark (b ∷ t) blank = by_ends (first_line t) (mark_count is_mark true (drop (length (first_line t)) t)) (b == newline) (is_blank b) blank refl (ends_blank b) refl (marks_line is_mark t)

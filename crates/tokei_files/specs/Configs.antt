@@ -38,7 +38,8 @@ counting_by rows settings =
 
 -- what the walk over these roots of a known tree notes
 unfoldable pub noted_by : Settings → Tree → List (List ℕ) → List (List ℕ) → List Noted
-noted_by settings tree roots excludes = noted_in (excludes_of excludes) (rules_of settings) tree roots
+noted_by settings tree roots excludes =
+    noted_in (excludes_of excludes) (rules_of settings) tree roots
 
 -- the files of a known tree that are counted: those below the roots that the rules keep
 unfoldable pub kept_by : Settings → Tree → List (List ℕ) → List (List ℕ) → List KeptFile

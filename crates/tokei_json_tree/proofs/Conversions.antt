@@ -26,9 +26,19 @@ use Rattle.json.specs.declared.value.Value.{Value as Tree, Number as TreeNumber,
 use Rattle.json.specs.declared.value.Value.{the_lemmas as tree_lemmas}
 use Rattle.json.specs.Value.{value_view, items_view, members_view as tree_members}
 use Rattle.std.specs.Borrow.{Bor}
-use Rattle.tokei_json_tree.specs.Converted.{IsTreeOf, AreItemsOf, AreMembersOf}
-use Rattle.tokei_json_tree.specs.Ordered.{keys_of, AreKeysInOrder}
+use Rattle.tokei_json_tree.specs.Converted.{IsTreeOf}
+use Rattle.tokei_json_tree.specs.Ordered.{keys_of, AreKeysInOrder, AreItemsOrdered, AreMembersOrdered}
 use Rattle.tokei_json_tree.specs.TreeData.{items_data, members_data, number_data}
+
+-- The items of a list stand for those of data, and the objects in them have their keys in order.
+pub record AreItemsOf (ds : Items) (js : json.Items) : Type 0 where
+  pub value : items_data js ≡ ds
+  pub ordered : AreItemsOrdered js
+
+-- The members of an object do; of the order of their own keys nothing is said.
+pub record AreMembersOf (ds : Members) (ms : json.Members) : Type 0 where
+  pub value : members_data ms ≡ ds
+  pub ordered : AreMembersOrdered ms
 
 pub item_more : (d : Data) (ds : Items) (j : json.Json) (js : json.Items) → IsTreeOf d j → AreItemsOf ds js
     → AreItemsOf (item d ds) (json.item j js)

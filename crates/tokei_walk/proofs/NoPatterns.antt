@@ -56,8 +56,9 @@ nothing_decided ls names is_folder e =
     let within = inside ls names ([], []) e refl in
     let inner = (repository ls names).0 in
     let below = (repository ls names).1 in
-    sym (ap (λ (o : Option Verdict). or_else o (or_else (decision Plain ls names is_folder None) (or_else (decision Gitignore inner below is_folder None) (decision GitExclude inner below is_folder None))))
+    let of_git = or_else (decision Gitignore inner below is_folder None) (decision GitExclude inner below is_folder None) in
+    sym (ap (λ (o : Option Verdict). or_else o (or_else (decision Plain ls names is_folder None) of_git))
     (kind_decides_none Tokeignore ls names is_folder e)
-    ∙ ap (λ (o : Option Verdict). or_else o (or_else (decision Gitignore inner below is_folder None) (decision GitExclude inner below is_folder None))) (kind_decides_none Plain ls names is_folder e)
+    ∙ ap (λ (o : Option Verdict). or_else o of_git) (kind_decides_none Plain ls names is_folder e)
     ∙ ap (λ (o : Option Verdict). or_else o (decision GitExclude inner below is_folder None)) (kind_decides_none Gitignore inner below is_folder within)
     ∙ kind_decides_none GitExclude inner below is_folder within)

@@ -61,7 +61,10 @@ overflow_sub-result c =
     let ahead = c.args.ahead.now in
     let is_mark = is_marked ahead.marks.now in
     let text = ahead.reading.now.text.now in
-    omega (arith, look.comments, c.marks_behind.ensures, marks_before is_mark text ahead.start c.args.look.stop c.args.look.at c.requires.some look.order look.high (look.begun c.requires.some) look.on)
+    let before =
+    marks_before is_mark text ahead.start c.args.look.stop c.args.look.at c.requires.some look.order look.high
+    (look.begun c.requires.some) look.on in
+    omega (arith, look.comments, c.marks_behind.ensures, before)
 
 pub returns-clause-fronts : goal.returns-clause-fronts
 returns-clause-fronts c =
@@ -82,4 +85,7 @@ returns-clause-marks c =
     let ahead = c.args.ahead.now in
     let is_mark = is_marked ahead.marks.now in
     let text = ahead.reading.now.text.now in
-    omega (arith, look.comments, c.marks_behind.ensures, marks_before is_mark text ahead.start c.args.look.stop c.args.look.at c.requires.some look.order look.high (look.begun c.requires.some) look.on)
+    let before =
+    marks_before is_mark text ahead.start c.args.look.stop c.args.look.at c.requires.some look.order look.high
+    (look.begun c.requires.some) look.on in
+    omega (arith, look.comments, c.marks_behind.ensures, before)

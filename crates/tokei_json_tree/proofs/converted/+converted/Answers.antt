@@ -7,8 +7,7 @@ use Rattle.serde_json.specs.Data.{member}
 use Rattle.serde_json.specs.View.{view}
 use Rattle.serde_json.specs.View.{items_view as data_items_view}
 use Rattle.serde_json.specs.View.{members_view as data_members_view}
-use Rattle.tokei_json_tree.specs.Converted.{AreItemsOf, AreMembersOf}
-use Rattle.tokei_json_tree.proofs.Conversions.{array_of, item_more, member_more, object_of, tree_of_number}
+use Rattle.tokei_json_tree.proofs.Conversions.{AreItemsOf, AreMembersOf, array_of, item_more, member_more, object_of, tree_of_number}
 use Rattle.tokei_json_tree.proofs.Steps.{from_item, room_behind, room_for_all}
 use Rattle.tokei_json_tree.proofs.converted.+converted.Goals as goal
 

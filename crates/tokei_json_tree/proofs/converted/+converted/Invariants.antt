@@ -2,7 +2,7 @@ use Rattle.std.proofs.Common.{◌+◌, ◌≤◌, ◌≡◌, ◌++◌, drop, len
 use Rattle.json.specs.Value.{items_view, members_view}
 use Rattle.serde_json.specs.View.{items_view as data_items_view}
 use Rattle.serde_json.specs.View.{members_view as data_members_view}
-use Rattle.tokei_json_tree.specs.Converted.{AreItemsOf, AreMembersOf}
+use Rattle.tokei_json_tree.proofs.Conversions.{AreItemsOf, AreMembersOf}
 use Rattle.tokei_json_tree.proofs.converted.+converted.Given as goal
 
 abbrev pub invariant-items_converted-loop-item : goal.invariant-items_converted-loop-item

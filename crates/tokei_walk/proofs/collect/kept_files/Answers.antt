@@ -22,7 +22,9 @@ pub returns-clause-noted : goal.returns-clause-noted
 returns-clause-noted g c = λ t e.
     let walk = c.in_ok-walk.walk in
     let noted = noted_in (excludes_of (texts_of c.args.excludes.now)) c.args.rules.now t (texts_of c.args.roots.now) in
-    let said = subst (λ (r : Result _ _). OnOk r (NotesSay (notes_of walk) (notes_of c.files_to_come-files.new.walk) (noted_to_come t walk))) c.in_ok-files.was (c.files_to_come-files.ensures.noted t e) in
+    let come = noted_to_come t walk in
+    let said = subst (λ (r : Result _ _). OnOk r (NotesSay (notes_of walk) (notes_of c.files_to_come-files.new.walk) come))
+    c.in_ok-files.was (c.files_to_come-files.ensures.noted t e) in
     subst (λ (n : List Note). NotesSay n c.into_notes-notes.result.items noted) c.in_ok-walk.ensures.notes
     (says_what _ _ _ _ (c.in_ok-walk.ensures.noted t)
-    (subst (λ (n : List Note). NotesSay (notes_of walk) n (noted_to_come t walk)) (sym c.into_notes-notes.ensures) said))
+    (subst (λ (n : List Note). NotesSay (notes_of walk) n come) (sym c.into_notes-notes.ensures) said))
