@@ -9,8 +9,8 @@ TOP = os.path.dirname(os.path.dirname(os.path.abspath(__file__)))
 
 def languages_of(files, table):
     """For each of these files, each a name and a text, the name of the language by which the program counts it with this
-    table; None where it counts it by none. All are made in one folder of its own for each, since a file system may take two
-    names for one, and counted in one run."""
+    table; None where it counts it by none. Each is made in a folder of its own, since a file system may take two names for
+    one; all are counted in one run."""
     with tempfile.TemporaryDirectory() as folder:
         for number, (name, text) in enumerate(files):
             os.mkdir(f"{folder}/{number}")
