@@ -5,3 +5,4 @@ pub mod Left
 pub mod Orderings
 pub mod Plain
 pub mod Steps
+pub mod Unordered

@@ -4,3 +4,4 @@ pub mod Ordered
 pub mod Orderings
 pub mod Reading
 pub mod TreeData
+pub mod Unordered

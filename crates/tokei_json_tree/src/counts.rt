@@ -7,7 +7,7 @@ ghost use Rattle.serde_json.specs.Read.{number_of};
 use fast_float::Numeral;
 
 /// Whether the first byte is a minus.
-fn has_minus(bytes: &[u8]) -> bool
+pub(crate) fn has_minus(bytes: &[u8]) -> bool
     ensures { result ≡ (slice_index bytes.now 0 == minus) }
 {
     !bytes.is_empty() && bytes[0] == b'-'

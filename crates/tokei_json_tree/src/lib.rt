@@ -1,6 +1,6 @@
 //! A JSON text as a tree that borrows its texts: it is made in half the time that the value
 //! of `serde_json` takes, and stands for the same data. The keys of each object are in byte order,
-//! each once.
+//! each once, where `read` made it; `read_unordered` leaves them as they stand in the text.
 #![tactic(auto)]
 
 pub mod converted;
@@ -8,11 +8,12 @@ mod counts;
 mod fractions;
 mod lookups;
 pub mod ordering;
+mod ranges;
 mod reading;
 mod tree;
 
 pub use counts::count;
 pub use fractions::has_float;
-pub use lookups::member;
-pub use reading::{ReadError, Reading, Room, read};
+pub use lookups::{last_member, member};
+pub use reading::{ReadError, Reading, Room, read, read_unordered};
 pub use tree::{Tree, TreeItems, TreeMembers};

@@ -4,6 +4,7 @@ ghost use Rattle.json.specs.Value.{value_view, members_view};
 ghost use Rattle.serde_json.specs.Find.{get, get_member};
 ghost use Rattle.tokei_json_tree.specs.Ordered.{AreKeysInOrder, AreMembersOrdered, IsOrdered};
 ghost use Rattle.tokei_json_tree.specs.TreeData.{data_of, members_data};
+ghost use Rattle.tokei_json_tree.specs.Unordered.{unordered_data};
 
 use crate::tree::{Tree, TreeMembers};
 use json::Value;
@@ -43,4 +44,13 @@ pub fn member<'v, 't>(tree: &'v Tree<'t>, name: &str) -> Option<&'v Tree<'t>>
         Value::Object(members) => find(members, name),
         _ => None,
     }
+}
+
+/// The value of the last member of that name, where the tree is an object that has one. It walks
+/// the members from the end, whose keys may stand in any order.
+pub fn last_member<'v, 't>(tree: &'v Tree<'t>, name: &str) -> Option<&'v Tree<'t>>
+    ensures { option_map (λ v. unordered_data (value_view v.now)) result
+        ≡ get name.now (unordered_data (value_view tree.now)) }
+{
+    tree.get(name)
 }

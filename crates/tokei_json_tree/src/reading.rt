@@ -6,10 +6,12 @@ ghost use Rattle.serde_json.specs.View.{view};
 ghost use Rattle.serde_json.specs.Written.{has_float as data_has_float};
 ghost use Rattle.tokei_json_tree.specs.Reading.{IsReadingOf};
 ghost use Rattle.tokei_json_tree.specs.TreeData.{data_of};
+ghost use Rattle.tokei_json_tree.specs.Unordered.{unordered_data};
 
 use crate::converted::converted;
 use crate::fractions::has_float;
 use crate::ordering::{is_plain, ordered};
+use crate::ranges::is_in_range;
 use crate::tree::Tree;
 use bumpalo::Bump;
 use json::{Reader, Scratch};
@@ -134,4 +136,19 @@ pub fn read<'t>(alloc: Global, room: &'t mut Room, text: &'t str) -> Result<Read
         tree: converted(alloc, bump, value)?,
         has_fraction: has_float(value),
     })
+}
+
+/// Reads a text whose objects may have their keys in any order, and some twice: it leaves them so,
+/// and no text takes longer than another of its length. Refused is exactly what `serde_json` has no
+/// reading of; `Memory` comes only where an allocation failed.
+pub fn read_unordered<'t>(room: &'t mut Room, text: &'t str) -> Result<Tree<'t>, ReadError>
+    ensures tree { IfOk result (λ t. read_text text.now ≡ Some (unordered_data (value_view t))) }
+    ensures refused { IfErr result (λ e. e ≢ ReadError.Memory
+        → (e ≡ ReadError.NotJson) × (read_text text.now ≡ None)) }
+{
+    let tree = tree_of(&room.bump, &mut room.scratch, text)?;
+    if !is_in_range(&tree) {
+        return Err(ReadError::NotJson);
+    }
+    Ok(tree)
 }

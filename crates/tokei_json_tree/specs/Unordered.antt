@@ -1,0 +1,48 @@
+-- The data that a tree stands for whose objects have their keys in any order, and some twice.
+use Rattle.std.specs.Prelude.{Bool, true, ◌&&◌, is_some}
+use Rattle.json.specs.Json as json
+use Rattle.serde_json.specs.Data.{Data, null, boolean, string, array, object}
+use Rattle.serde_json.specs.Data.{Items, no_items, item, Members, no_members, put}
+use Rattle.serde_json.specs.Read.{number_of}
+use Rattle.tokei_json_tree.specs.TreeData.{number_data}
+
+abbrev mutual
+  -- Of a value.
+  pub unordered_data : json.Json → Data
+  unordered_data json.null = null
+  unordered_data (json.boolean b) = boolean b
+  unordered_data (json.number s) = number_data (number_of s)
+  unordered_data (json.string s) = string s
+  unordered_data (json.array js) = array (unordered_items js)
+  unordered_data (json.object ms) = object (unordered_members ms no_members)
+
+  -- Of the items of a list.
+  pub unordered_items : json.Items → Items
+  unordered_items json.no_items = no_items
+  unordered_items (json.item j js) = item (unordered_data j) (unordered_items js)
+
+  -- Of the members of an object, which go in behind others one after another: the last value of a
+  -- key stays.
+  pub unordered_members : json.Members → Members → Members
+  unordered_members json.no_members found = found
+  unordered_members (json.member k j ms) found = unordered_members ms (put k (unordered_data j) found)
+
+abbrev mutual
+  -- Each number in a value can be read: none is too large for a float.
+  pub is_in_range : json.Json → Bool
+  is_in_range json.null = true
+  is_in_range (json.boolean b) = true
+  is_in_range (json.number s) = is_some (number_of s)
+  is_in_range (json.string s) = true
+  is_in_range (json.array js) = are_items_in_range js
+  is_in_range (json.object ms) = are_members_in_range ms
+
+  -- In each item of a list.
+  pub are_items_in_range : json.Items → Bool
+  are_items_in_range json.no_items = true
+  are_items_in_range (json.item j js) = is_in_range j && are_items_in_range js
+
+  -- In each member of an object.
+  pub are_members_in_range : json.Members → Bool
+  are_members_in_range json.no_members = true
+  are_members_in_range (json.member k j ms) = is_in_range j && are_members_in_range ms
