@@ -25,7 +25,8 @@ abbrev mutual
   -- key stays.
   pub unordered_members : json.Members → Members → Members
   unordered_members json.no_members found = found
-  unordered_members (json.member k j ms) found = unordered_members ms (put k (unordered_data j) found)
+  unordered_members (json.member k j ms) found =
+      unordered_members ms (put k (unordered_data j) found)
 
 abbrev mutual
   -- Each number in a value can be read: none is too large for a float.

@@ -139,8 +139,8 @@ pub fn read<'t>(alloc: Global, room: &'t mut Room, text: &'t str) -> Result<Read
 }
 
 /// Reads a text whose objects may have their keys in any order, and some twice: it leaves them so,
-/// and reads no text a second time. Refused is exactly what `serde_json` has no reading of; `Memory`
-/// comes only where an allocation failed.
+/// and reads no text a second time. Refused is exactly what `serde_json` has no reading of;
+/// `Memory` comes only where an allocation failed.
 pub fn read_unordered<'t>(room: &'t mut Room, text: &'t str) -> Result<Tree<'t>, ReadError>
     ensures tree { IfOk result (λ t. read_text text.now ≡ Some (unordered_data (value_view t))) }
     ensures refused { IfErr result (λ e. e ≢ ReadError.Memory

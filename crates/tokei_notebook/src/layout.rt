@@ -1,44 +1,57 @@
 //! The layout of a notebook.
 ghost use Rattle.std.specs.Prelude.{◌≡◌, ◌||◌, option_map};
-ghost use Rattle.serde_json.specs.View.{view, items_view};
+ghost use Rattle.json.specs.Value.{value_view, items_view};
+ghost use Rattle.tokei_json_tree.specs.Unordered.{unordered_data, unordered_items};
 ghost use Rattle.tokei_table_json.specs.Layout.{all_items, is_list, is_text, stands_and};
 ghost use Rattle.tokei_notebook.specs.Layout.{is_markdown, is_code, is_cell, has_metadata, has_notebook_layout};
 
-use serde_json::Value;
+use json::Value;
+use tokei_json_tree::{Tree, TreeItems, last_member};
 
 /// Whether the member reads `markdown`.
-pub(crate) fn is_markdown(member: Option<&Value>) -> bool
-    ensures { result ≡ stands_and is_markdown (option_map (λ v. view v.now) member.entry) }
+pub(crate) fn is_markdown(member: Option<&Tree<'_>>) -> bool
+    ensures { result ≡ stands_and is_markdown
+        (option_map (λ v. unordered_data (value_view v.now)) member.entry) }
 {
     match member {
-        Some(Value::String(text)) => text.as_str() == "markdown",
+        Some(Value::String(text)) => *text == "markdown",
         _ => false,
     }
 }
 
-fn is_kind(member: Option<&Value>) -> bool
-    ensures { result
-        ≡ stands_and (λ k. is_markdown k || is_code k) (option_map (λ v. view v.now) member.entry) }
+fn is_kind(member: Option<&Tree<'_>>) -> bool
+    ensures { result ≡ stands_and (λ k. is_markdown k || is_code k)
+        (option_map (λ v. unordered_data (value_view v.now)) member.entry) }
 {
     match member {
-        Some(Value::String(text)) => text.as_str() == "markdown" || text.as_str() == "code",
+        Some(Value::String(text)) => *text == "markdown" || *text == "code",
         _ => false,
     }
 }
 
-fn all_texts(items: &Vec<Value>) -> bool
-    ensures { result ≡ all_items is_text (items_view items.now.items) }
+fn is_text(value: &Tree<'_>) -> bool
+    ensures { result ≡ is_text (unordered_data (value_view value.now)) }
+{
+    match value {
+        Value::String(_) => true,
+        _ => false,
+    }
+}
+
+fn all_texts(items: &TreeItems<'_>) -> bool
+    ensures { result ≡ all_items is_text (unordered_items (items_view items.now.items)) }
 {
     for item in items {
-        if !item.is_string() {
+        if !is_text(item) {
             return false;
         }
     }
     true
 }
 
-fn is_source(member: Option<&Value>) -> bool
-    ensures { result ≡ stands_and (is_list is_text) (option_map (λ v. view v.now) member.entry) }
+fn is_source(member: Option<&Tree<'_>>) -> bool
+    ensures { result ≡ stands_and (is_list is_text)
+        (option_map (λ v. unordered_data (value_view v.now)) member.entry) }
 {
     match member {
         Some(Value::Array(items)) => all_texts(items),
@@ -47,14 +60,14 @@ fn is_source(member: Option<&Value>) -> bool
 }
 
 #[tactic(auto, unfolding(crate::specs::Layout::is_cell))]
-fn is_cell(value: &Value) -> bool
-    ensures { result ≡ is_cell (view value.now) }
+fn is_cell(value: &Tree<'_>) -> bool
+    ensures { result ≡ is_cell (unordered_data (value_view value.now)) }
 {
-    is_kind(value.get("cell_type")) && is_source(value.get("source"))
+    is_kind(last_member(value, "cell_type")) && is_source(last_member(value, "source"))
 }
 
-fn all_cells(items: &Vec<Value>) -> bool
-    ensures { result ≡ all_items is_cell (items_view items.now.items) }
+fn all_cells(items: &TreeItems<'_>) -> bool
+    ensures { result ≡ all_items is_cell (unordered_items (items_view items.now.items)) }
 {
     for item in items {
         if !is_cell(item) {
@@ -64,8 +77,9 @@ fn all_cells(items: &Vec<Value>) -> bool
     true
 }
 
-fn are_cells(member: Option<&Value>) -> bool
-    ensures { result ≡ stands_and (is_list is_cell) (option_map (λ v. view v.now) member.entry) }
+fn are_cells(member: Option<&Tree<'_>>) -> bool
+    ensures { result ≡ stands_and (is_list is_cell)
+        (option_map (λ v. unordered_data (value_view v.now)) member.entry) }
 {
     match member {
         Some(Value::Array(items)) => all_cells(items),
@@ -73,19 +87,21 @@ fn are_cells(member: Option<&Value>) -> bool
     }
 }
 
-fn has_metadata(member: Option<&Value>) -> bool
-    ensures { result ≡ stands_and has_metadata (option_map (λ v. view v.now) member.entry) }
+fn has_metadata(member: Option<&Tree<'_>>) -> bool
+    ensures { result ≡ stands_and has_metadata
+        (option_map (λ v. unordered_data (value_view v.now)) member.entry) }
 {
     match member {
-        Some(value) => value.get("kernelspec").is_some() && value.get("language_info").is_some(),
+        Some(value) => last_member(value, "kernelspec").is_some()
+            && last_member(value, "language_info").is_some(),
         None => false,
     }
 }
 
 /// Whether the value has the layout of a notebook.
 #[tactic(auto, unfolding(crate::specs::Layout::has_notebook_layout))]
-pub(crate) fn has_notebook_layout(value: &Value) -> bool
-    ensures { result ≡ has_notebook_layout (view value.now) }
+pub(crate) fn has_notebook_layout(value: &Tree<'_>) -> bool
+    ensures { result ≡ has_notebook_layout (unordered_data (value_view value.now)) }
 {
-    are_cells(value.get("cells")) && has_metadata(value.get("metadata"))
+    are_cells(last_member(value, "cells")) && has_metadata(last_member(value, "metadata"))
 }

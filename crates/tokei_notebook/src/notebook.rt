@@ -1,14 +1,15 @@
 //! The cells of a notebook.
-ghost use Rattle.std.specs.Prelude.{◌≡◌, ◌<◌, length, map, option_map, IfOk, IfSome};
-ghost use Rattle.serde_json.specs.View.{view, items_view};
+ghost use Rattle.std.specs.Prelude.{◌≡◌, ◌<◌, length, map, option_map, IfOk, IfSome, Some};
+ghost use Rattle.json.specs.Value.{value_view, items_view};
+ghost use Rattle.tokei_json_tree.specs.Unordered.{unordered_data, unordered_items};
 ghost use Rattle.tokei_notebook.specs.Cells.{cell_of, by_kernel, by_extension, get_in, code_language, text_of, joined};
 ghost use Rattle.tokei_notebook.specs.Cells.{source_of, cells_in, cells_at, cells_of, notebook_cells, AreKnown};
 ghost use Rattle.tokei_table.specs.Families.{fallback};
-ghost use Rattle.tokei_table_json.specs.Outcome.{data_of};
 
 use crate::layout::{has_notebook_layout, is_markdown};
-use serde_json::Value;
+use json::Value;
 use std::alloc::{AllocError, Global};
+use tokei_json_tree::{ReadError, Room, Tree, TreeItems, last_member, read_unordered};
 use tokei_table::{LanguageTable, LanguageType};
 
 /// A cell of a notebook.
@@ -20,23 +21,6 @@ pub struct Cell {
     pub source: Vec<u8>,
 }
 
-/// The JSON value of a text, if it has one.
-fn data(alloc: Global, text: &[u8]) -> Result<Option<Value>, AllocError>
-    ensures { IfOk result (λ o. option_map view o ≡ data_of text.now) }
-{
-    match std::str::from_utf8(text) {
-        Ok(text) => match Value::from_str(alloc, text) {
-            Ok(value) => Ok(Some(value)),
-            Err(e) => if e.is_memory() {
-                Err(AllocError)
-            } else {
-                Ok(None)
-            },
-        },
-        Err(_) => Ok(None),
-    }
-}
-
 /// The language on which a notebook falls back, else its own.
 fn fallback(table: &LanguageTable, notebook: LanguageType, name: &str) -> LanguageType
     requires { notebook < length table.now }
@@ -46,34 +30,34 @@ fn fallback(table: &LanguageTable, notebook: LanguageType, name: &str) -> Langua
     LanguageType::from_name(table, name).unwrap_or(notebook)
 }
 
-fn by_kernel(table: &LanguageTable, member: Option<&Value>) -> Option<LanguageType>
+fn by_kernel(table: &LanguageTable, member: Option<&Tree<'_>>) -> Option<LanguageType>
     ensures known { IfSome result (λ l. l < length table.now) }
-    ensures value { result ≡ by_kernel table.now (option_map (λ v. view v.now) member.entry) }
+    ensures value { result ≡ by_kernel table.now
+        (option_map (λ v. unordered_data (value_view v.now)) member.entry) }
 {
     match member {
-        Some(Value::String(word)) => LanguageType::from_str(table, word.as_str()),
+        Some(Value::String(word)) => LanguageType::from_str(table, word),
         _ => None,
     }
 }
 
-fn by_extension(table: &LanguageTable, member: Option<&Value>) -> Option<LanguageType>
+fn by_extension(table: &LanguageTable, member: Option<&Tree<'_>>) -> Option<LanguageType>
     ensures known { IfSome result (λ l. l < length table.now) }
-    ensures value { result ≡ by_extension table.now (option_map (λ v. view v.now) member.entry) }
+    ensures value { result ≡ by_extension table.now
+        (option_map (λ v. unordered_data (value_view v.now)) member.entry) }
 {
     match member {
-        Some(Value::String(extension)) => LanguageType::from_file_extension(
-            table,
-            extension.as_str(),
-        ),
+        Some(Value::String(extension)) => LanguageType::from_file_extension(table, extension),
         _ => None,
     }
 }
 
-fn get_in<'a>(value: &'a Value, outer: &str, inner: &str) -> Option<&'a Value>
-    ensures { option_map (λ v. view v.now) result ≡ get_in outer.now inner.now (view value.now) }
+fn get_in<'v, 't>(value: &'v Tree<'t>, outer: &str, inner: &str) -> Option<&'v Tree<'t>>
+    ensures { option_map (λ v. unordered_data (value_view v.now)) result
+        ≡ get_in outer.now inner.now (unordered_data (value_view value.now)) }
 {
-    match value.get(outer) {
-        Some(member) => member.get(inner),
+    match last_member(value, outer) {
+        Some(member) => last_member(member, inner),
         None => None,
     }
 }
@@ -83,12 +67,12 @@ fn get_in<'a>(value: &'a Value, outer: &str, inner: &str) -> Option<&'a Value>
 fn code_language(
     table: &LanguageTable,
     notebook: LanguageType,
-    metadata: Option<&Value>,
+    metadata: Option<&Tree<'_>>,
 ) -> LanguageType
     requires { notebook < length table.now }
     ensures known { result < length table.now }
-    ensures value { result
-        ≡ code_language table.now notebook (option_map (λ v. view v.now) metadata.entry) }
+    ensures value { result ≡ code_language table.now notebook
+        (option_map (λ v. unordered_data (value_view v.now)) metadata.entry) }
 {
     if let Some(metadata) = metadata {
         if let Some(named) = by_kernel(table, get_in(metadata, "kernelspec", "language")) {
@@ -102,17 +86,17 @@ fn code_language(
     fallback(table, notebook, "Python")
 }
 
-fn text_of(value: &Value) -> &[u8]
-    ensures { result.now ≡ text_of (view value.entry.now) }
+fn text_of<'t>(value: &Tree<'t>) -> &'t [u8]
+    ensures { result.now ≡ text_of (unordered_data (value_view value.entry.now)) }
 {
     match value {
-        Value::String(text) => text.as_str().as_bytes(),
+        Value::String(text) => text.as_bytes(),
         _ => &[],
     }
 }
 
-fn joined(alloc: Global, items: &Vec<Value>) -> Result<Vec<u8>, AllocError>
-    ensures { IfOk result (λ v. v.items ≡ joined (items_view items.now.items)) }
+fn joined(alloc: Global, items: &TreeItems<'_>) -> Result<Vec<u8>, AllocError>
+    ensures { IfOk result (λ v. v.items ≡ joined (unordered_items (items_view items.now.items))) }
 {
     let mut text = Vec::new(alloc);
     for item in items {
@@ -121,8 +105,9 @@ fn joined(alloc: Global, items: &Vec<Value>) -> Result<Vec<u8>, AllocError>
     Ok(text)
 }
 
-fn source_of(alloc: Global, member: Option<&Value>) -> Result<Vec<u8>, AllocError>
-    ensures { IfOk result (λ v. v.items ≡ source_of (option_map (λ w. view w.now) member.entry)) }
+fn source_of(alloc: Global, member: Option<&Tree<'_>>) -> Result<Vec<u8>, AllocError>
+    ensures { IfOk result (λ v. v.items
+        ≡ source_of (option_map (λ w. unordered_data (value_view w.now)) member.entry)) }
 {
     match member {
         Some(Value::Array(items)) => joined(alloc, items),
@@ -135,19 +120,19 @@ fn cells_in(
     alloc: Global,
     markdown: LanguageType,
     code: LanguageType,
-    items: &Vec<Value>,
+    items: &TreeItems<'_>,
 ) -> Result<Vec<Cell>, AllocError>
     ensures { IfOk result (λ v. map cell_of v.items
-        ≡ cells_in markdown code (items_view items.now.items)) }
+        ≡ cells_in markdown code (unordered_items (items_view items.now.items))) }
 {
     let mut cells = Vec::new(alloc);
     for item in items {
-        let language = if is_markdown(item.get("cell_type")) {
+        let language = if is_markdown(last_member(item, "cell_type")) {
             markdown
         } else {
             code
         };
-        let source = source_of(alloc, item.get("source"))?;
+        let source = source_of(alloc, last_member(item, "source"))?;
         cells.push(Cell { language, source })?;
     }
     Ok(cells)
@@ -157,10 +142,10 @@ fn cells_at(
     alloc: Global,
     markdown: LanguageType,
     code: LanguageType,
-    member: Option<&Value>,
+    member: Option<&Tree<'_>>,
 ) -> Result<Vec<Cell>, AllocError>
-    ensures { IfOk result (λ v. map cell_of v.items
-        ≡ cells_at markdown code (option_map (λ w. view w.now) member.entry)) }
+    ensures { IfOk result (λ v. map cell_of v.items ≡ cells_at markdown code
+        (option_map (λ w. unordered_data (value_view w.now)) member.entry)) }
 {
     match member {
         Some(Value::Array(items)) => cells_in(alloc, markdown, code, items),
@@ -168,9 +153,28 @@ fn cells_at(
     }
 }
 
+/// The cells of a JSON value; one without the layout of a notebook has none.
+#[tactic(auto, unfolding(crate::specs::Cells::cells_of))]
+fn cells_of(
+    alloc: Global,
+    table: &LanguageTable,
+    notebook: LanguageType,
+    value: &Tree<'_>,
+) -> Result<Vec<Cell>, AllocError>
+    requires { notebook < length table.now }
+    ensures { IfOk result (λ v. map cell_of v.items
+        ≡ cells_of table.now notebook (Some (unordered_data (value_view value.now)))) }
+{
+    if !has_notebook_layout(value) {
+        return Ok(Vec::new(alloc));
+    }
+    let markdown = fallback(table, notebook, "Markdown");
+    let code = code_language(table, notebook, last_member(value, "metadata"));
+    cells_at(alloc, markdown, code, last_member(value, "cells"))
+}
+
 /// The cells of a text in the table's language of notebooks, in their order; a text that is no
 /// notebook has none. It fails where memory runs out.
-#[tactic(auto, unfolding(crate::specs::Cells::cells_of))]
 pub fn cells(
     alloc: Global,
     table: &LanguageTable,
@@ -182,14 +186,14 @@ pub fn cells(
         ≡ notebook_cells table.now notebook text.now) }
     ensures known { IfOk result (λ v. AreKnown (length table.now) (map cell_of v.items)) }
 {
-    let value = match data(alloc, text)? {
-        Some(value) => value,
-        None => return Ok(Vec::new(alloc)),
+    let text = match std::str::from_utf8(text) {
+        Ok(text) => text,
+        Err(_) => return Ok(Vec::new(alloc)),
     };
-    if !has_notebook_layout(&value) {
-        return Ok(Vec::new(alloc));
+    let mut room = Room::new(alloc);
+    match read_unordered(&mut room, text) {
+        Ok(value) => cells_of(alloc, table, notebook, &value),
+        Err(ReadError::NotJson) => Ok(Vec::new(alloc)),
+        Err(ReadError::Memory) => Err(AllocError),
     }
-    let markdown = fallback(table, notebook, "Markdown");
-    let code = code_language(table, notebook, value.get("metadata"));
-    cells_at(alloc, markdown, code, value.get("cells"))
 }
