@@ -15,5 +15,6 @@ mod tree;
 pub use counts::count;
 pub use fractions::has_float;
 pub use lookups::{last_member, member};
+pub use ranges::{is_in_range, is_number_in_range};
 pub use reading::{ReadError, Reading, Room, read, read_unordered};
 pub use tree::{Tree, TreeItems, TreeMembers};

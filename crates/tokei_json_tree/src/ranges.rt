@@ -35,8 +35,8 @@ fn is_negative_in_range(numeral: &Numeral<'_>) -> bool
     has_float(true, numeral)
 }
 
-/// Whether the number that the text writes has a value.
-fn is_number_in_range(text: &str) -> bool
+/// Whether the number that the text writes has a value: `serde_json` refuses one that has none.
+pub fn is_number_in_range(text: &str) -> bool
     ensures { result ≡ is_some (number_of text.now) }
 {
     let bytes = text.as_bytes();
