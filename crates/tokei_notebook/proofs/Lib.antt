@@ -1,2 +1,7 @@
+pub mod KeptCells
+pub mod KeptMembers
 pub mod Known
 pub mod KnownCells
+pub mod Left
+pub mod Reading
+pub mod Shown

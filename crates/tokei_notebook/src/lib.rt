@@ -1,7 +1,9 @@
 //! The cells of a notebook, with the language of each.
 #![tactic(auto)]
 
+mod kept;
 mod layout;
 mod notebook;
+mod passing;
 
 pub use notebook::{Cell, cells};

@@ -1,13 +1,16 @@
 //! The cells of a notebook.
 ghost use Rattle.std.specs.Prelude.{◌≡◌, ◌<◌, length, map, option_map, IfOk, IfSome, Some};
 ghost use Rattle.json.specs.Value.{value_view, items_view};
+ghost use Rattle.serde_json.specs.Read.{read as read_text};
 ghost use Rattle.tokei_json_tree.specs.Unordered.{unordered_data, unordered_items};
 ghost use Rattle.tokei_notebook.specs.Cells.{cell_of, by_kernel, by_extension, get_in, code_language, text_of, joined};
 ghost use Rattle.tokei_notebook.specs.Cells.{source_of, cells_in, cells_at, cells_of, notebook_cells, AreKnown};
 ghost use Rattle.tokei_table.specs.Families.{fallback};
 
+use crate::kept::{Missed, read_kept};
 use crate::layout::{has_notebook_layout, is_markdown};
-use json::Value;
+use bumpalo::Bump;
+use json::{Scratch, Value};
 use std::alloc::{AllocError, Global};
 use tokei_json_tree::{ReadError, Room, Tree, TreeItems, last_member, read_unordered};
 use tokei_table::{LanguageTable, LanguageType};
@@ -173,6 +176,47 @@ fn cells_of(
     cells_at(alloc, markdown, code, last_member(value, "cells"))
 }
 
+/// The cells of a text of which only they and the metadata become a tree; none where it isn't read
+/// so.
+fn cells_of_kept(
+    alloc: Global,
+    table: &LanguageTable,
+    notebook: LanguageType,
+    text: &str,
+) -> Result<Option<Vec<Cell>>, AllocError>
+    requires { notebook < length table.now }
+    ensures { IfOk result (λ o. IfSome o (λ v. map cell_of v.items
+        ≡ cells_of table.now notebook (read_text text.now))) }
+{
+    let bump = Bump::new(alloc);
+    let mut scratch = Scratch::new(alloc);
+    match read_kept(&bump, &mut scratch, text) {
+        Ok(value) => Ok(Some(cells_of(alloc, table, notebook, &value)?)),
+        Err(Missed::Unusual) => Ok(None),
+        Err(Missed::Memory) => Err(AllocError),
+    }
+}
+
+/// The cells of a text the whole of which becomes a tree, for a text that isn't read as above. Of
+/// these only one whose member `cells` stands twice, at first in another layout, has any.
+fn cells_of_whole(
+    alloc: Global,
+    table: &LanguageTable,
+    notebook: LanguageType,
+    text: &str,
+) -> Result<Vec<Cell>, AllocError>
+    requires { notebook < length table.now }
+    ensures { IfOk result
+        (λ v. map cell_of v.items ≡ cells_of table.now notebook (read_text text.now)) }
+{
+    let mut room = Room::new(alloc);
+    match read_unordered(&mut room, text) {
+        Ok(value) => cells_of(alloc, table, notebook, &value),
+        Err(ReadError::NotJson) => Ok(Vec::new(alloc)),
+        Err(ReadError::Memory) => Err(AllocError),
+    }
+}
+
 /// The cells of a text in the table's language of notebooks, in their order; a text that is no
 /// notebook has none. It fails where memory runs out.
 pub fn cells(
@@ -190,10 +234,8 @@ pub fn cells(
         Ok(text) => text,
         Err(_) => return Ok(Vec::new(alloc)),
     };
-    let mut room = Room::new(alloc);
-    match read_unordered(&mut room, text) {
-        Ok(value) => cells_of(alloc, table, notebook, &value),
-        Err(ReadError::NotJson) => Ok(Vec::new(alloc)),
-        Err(ReadError::Memory) => Err(AllocError),
+    match cells_of_kept(alloc, table, notebook, text)? {
+        Some(cells) => Ok(cells),
+        None => cells_of_whole(alloc, table, notebook, text),
     }
 }

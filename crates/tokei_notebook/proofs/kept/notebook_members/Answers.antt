@@ -1,0 +1,48 @@
+use Rattle.std.proofs.Common.{◌≡◌, ◌++◌, ◌∷◌, [], Some, option_map, refl, sym, ◌∙◌, subst, rules}
+use Rattle.json.specs.Json.{read_key, value}
+use Rattle.tokei_notebook.specs.Kept.{itself, kept_of_cells, kept_in_notebook}
+use Rattle.tokei_notebook.proofs.KeptMembers.{cells_kept, metadata_kept, other_passed}
+use Rattle.tokei_notebook.proofs.Left.{member_made, member_passed_over, members_made, none_made}
+use Rattle.tokei_notebook.proofs.kept.notebook_members.Goals as goal
+
+pub loop-key-init : goal.loop-key-init
+loop-key-init c = none_made (value c.args.depth) kept_in_notebook c.args.reader.now c.new-made.result.items c.new-made.ensures.items
+
+pub loop-key-preserved-else-is_err : goal.loop-key-preserved-else-is_err
+loop-key-preserved-else-is_err c =
+    let l = c.loop-key in
+    let k = c.in-Ok-Some.key in
+    let v = c.in_ok-cells-in-Ok-Some.cells in
+    let key : read_key l.reader ≡ Some (Some k.now, c.next_key.new.self) =
+    subst (λ o. read_key l.reader ≡ Some (option_map (λ s. s.now) o, c.next_key.new.self)) c.in-Ok-Some.field-0-is c.in-Ok-Some.ensures.value in
+    let longer : c.push.new.self.items ≡ l.made.items ++ (k, v) ∷ [] = search rules in
+    member_made l.invariant c.read_cells.new.reader k.now key c.in_ok-cells-in-Ok-Some.ensures.shorter kept_of_cells (k, v) c.push.new.self.items refl longer
+    c.in_ok-cells-in-Ok-Some.ensures.read (λ j ms. cells_kept k.now j ms (sym c.eq.ensures ∙ c.if-eq.true))
+
+pub loop-key-preserved-else-is_err-2 : goal.loop-key-preserved-else-is_err-2
+loop-key-preserved-else-is_err-2 c =
+    let l = c.loop-key in
+    let k = c.in-Ok-Some.key in
+    let v = c.in_ok-metadata-in-Ok-Some.metadata in
+    let key : read_key l.reader ≡ Some (Some k.now, c.next_key.new.self) =
+    subst (λ o. read_key l.reader ≡ Some (option_map (λ s. s.now) o, c.next_key.new.self)) c.in-Ok-Some.field-0-is c.in-Ok-Some.ensures.value in
+    let longer : c.push-then-eq-2.new.self.items ≡ l.made.items ++ (k, v) ∷ [] = search rules in
+    member_made l.invariant c.read_value.new.reader k.now key c.in_ok-metadata-in-Ok-Some.ensures.shorter itself (k, v) c.push-then-eq-2.new.self.items refl longer
+    c.in_ok-metadata-in-Ok-Some.ensures.read
+    (λ j ms. metadata_kept k.now j ms (sym c.eq.ensures ∙ c.if-eq.false) (sym c.eq-else-eq.ensures ∙ c.if-eq-2.true))
+
+pub loop-key-preserved : goal.loop-key-preserved
+loop-key-preserved c =
+    let l = c.loop-key in
+    let k = c.in-Ok-Some.key in
+    let key : read_key l.reader ≡ Some (Some k.now, c.next_key.new.self) =
+    subst (λ o. read_key l.reader ≡ Some (option_map (λ s. s.now) o, c.next_key.new.self)) c.in-Ok-Some.field-0-is c.in-Ok-Some.ensures.value in
+    member_passed_over l.invariant c.pass_value.new.reader k.now key (c.pass_value.ensures.shorter c.if-not-pass_value.false)
+    (c.pass_value.ensures.passed c.if-not-pass_value.false)
+    (λ j ms. other_passed k.now j ms (sym c.eq.ensures ∙ c.if-eq.false) (sym c.eq-else-eq.ensures ∙ c.if-eq-2.false))
+
+pub returns-in-Ok-None-clause-read : goal.returns-in-Ok-None-clause-read
+returns-in-Ok-None-clause-read c =
+    let l = c.loop-key in
+    members_made l.invariant c.next_key.new.self
+    (subst (λ o. read_key l.reader ≡ Some (option_map (λ s. s.now) o, c.next_key.new.self)) c.in-Ok-None.field-0-is c.in-Ok-None.ensures.value) refl
