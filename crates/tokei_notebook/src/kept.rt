@@ -1,6 +1,6 @@
 //! A notebook's JSON without what nobody asks for: only the members that tell its cells become a
 //! tree, and the others, such as outputs, are passed over.
-ghost use Rattle.std.specs.Prelude.{◌≡◌, ◌<◌, length, IfOk, OnOk, Some};
+ghost use Rattle.std.specs.Prelude.{◌≡◌, ◌<◌, [], length, IfOk, OnOk, Some};
 ghost use Rattle.json.specs.Json.{Json, items, members, value};
 ghost use Rattle.json.specs.Value.{value_view, items_view, members_view};
 ghost use Rattle.serde_json.specs.Read.{read as read_text};
@@ -11,6 +11,7 @@ ghost use Rattle.tokei_notebook.specs.Kept.{kept_of_cells, kept_in_notebook, kep
 use crate::passing::pass_value;
 use bumpalo::Bump;
 use json::{Error, Reader, Scratch, Token, Value};
+use std::alloc::AllocError;
 use tokei_json_tree::{Tree, TreeItems, TreeMembers, is_in_range};
 
 /// How deep lists and objects stand in one another at most, as in `serde_json`.
@@ -23,6 +24,17 @@ pub(crate) enum Missed {
     /// The text isn't JSON, a number in it has no value, or it is no object whose cells are a list
     /// of objects.
     Unusual,
+}
+
+impl From<AllocError> for Missed {
+    ghost use Rattle.std.specs.Prelude.{◌≡◌};
+    ghost use Rattle.tokei_notebook.specs.declared.kept.Missed.TheVariants.{Memory};
+
+    ghost from_gives = { λ _ e. e ≡ Memory };
+
+    fn from(_refused: AllocError) -> Missed {
+        Missed::Memory
+    }
 }
 
 /// The next value, whose lists and objects may nest `depth` deep.
@@ -49,30 +61,30 @@ fn is_kept_in_cell(name: &str) -> bool
     name == "cell_type" || name == "source"
 }
 
-/// What is kept of a cell's members, whose values may nest `depth` deep.
-fn cell_members<'t>(
+/// Puts what is kept of a cell's members, whose values may nest `depth` deep, into an empty list.
+fn put_cell_members<'t>(
     bump: &'t Bump,
     reader: &mut Reader<'t>,
     depth: usize,
-) -> Result<TreeMembers<'t>, Missed>
-    ensures read { IfOk result (λ v. IsRead (members (value depth) (length reader.old))
-        are_members_in_range kept_in_cell (members_view v.items) reader.old reader.new) }
+    made: &mut TreeMembers<'t>,
+) -> Result<(), Missed>
+    requires { made.old.items ≡ [] }
+    ensures read { OnOk result (IsRead (members (value depth) (length reader.old))
+        are_members_in_range kept_in_cell (members_view made.new.items) reader.old reader.new) }
     ensures shorter { OnOk result (length reader.new < length reader.old) }
 {
-    let mut made = Vec::new(bump);
     loop {
         match reader.next_key() {
             Ok(Some(key)) => {
                 if is_kept_in_cell(key) {
+                    made.reserve(1)?;
                     let value = read_value(bump, reader, depth)?;
-                    if made.push((key, value)).is_err() {
-                        return Err(Missed::Memory);
-                    }
+                    made.push_reserved((key, value));
                 } else if !pass_value(reader, depth) {
                     return Err(Missed::Unusual);
                 }
             }
-            Ok(None) => return Ok(made),
+            Ok(None) => return Ok(()),
             Err(_) => return Err(Missed::Unusual),
         }
     }
@@ -85,33 +97,33 @@ fn read_cell<'t>(bump: &'t Bump, reader: &mut Reader<'t>, depth: usize) -> Resul
     ensures shorter { OnOk result (length reader.new < length reader.old) }
 {
     match reader.next() {
-        Some(Token::BeginObject) if depth > 0 => Ok(Value::Object(cell_members(
-            bump,
-            reader,
-            depth - 1,
-        )?)),
+        Some(Token::BeginObject) if depth > 0 => {
+            let mut made = Vec::new(bump);
+            put_cell_members(bump, reader, depth - 1, &mut made)?;
+            Ok(Value::Object(made))
+        }
         _ => Err(Missed::Unusual),
     }
 }
 
-/// What is kept of a list of cells.
-fn cell_items<'t>(
+/// Puts what is kept of a list of cells into an empty list.
+fn put_cells<'t>(
     bump: &'t Bump,
     reader: &mut Reader<'t>,
     depth: usize,
-) -> Result<TreeItems<'t>, Missed>
-    ensures read { IfOk result (λ v. IsRead (items (value depth) (length reader.old))
-        are_items_in_range kept_of_items (items_view v.items) reader.old reader.new) }
+    made: &mut TreeItems<'t>,
+) -> Result<(), Missed>
+    requires { made.old.items ≡ [] }
+    ensures read { OnOk result (IsRead (items (value depth) (length reader.old))
+        are_items_in_range kept_of_items (items_view made.new.items) reader.old reader.new) }
     ensures shorter { OnOk result (length reader.new < length reader.old) }
 {
-    let mut made = Vec::new(bump);
     while !reader.take_end_array() {
+        made.reserve(1)?;
         let cell = read_cell(bump, reader, depth)?;
-        if made.push(cell).is_err() {
-            return Err(Missed::Memory);
-        }
+        made.push_reserved(cell);
     }
-    Ok(made)
+    Ok(())
 }
 
 /// What is kept of a notebook's cells.
@@ -121,44 +133,42 @@ fn read_cells<'t>(bump: &'t Bump, reader: &mut Reader<'t>, depth: usize) -> Resu
     ensures shorter { OnOk result (length reader.new < length reader.old) }
 {
     match reader.next() {
-        Some(Token::BeginArray) if depth > 0 => Ok(Value::Array(cell_items(
-            bump,
-            reader,
-            depth - 1,
-        )?)),
+        Some(Token::BeginArray) if depth > 0 => {
+            let mut made = Vec::new(bump);
+            put_cells(bump, reader, depth - 1, &mut made)?;
+            Ok(Value::Array(made))
+        }
         _ => Err(Missed::Unusual),
     }
 }
 
-/// What is kept of a notebook's members.
-fn notebook_members<'t>(
+/// Puts what is kept of a notebook's members into an empty list.
+fn put_notebook_members<'t>(
     bump: &'t Bump,
     reader: &mut Reader<'t>,
     depth: usize,
-) -> Result<TreeMembers<'t>, Missed>
-    ensures read { IfOk result (λ v. IsRead (members (value depth) (length reader.old))
-        are_members_in_range kept_in_notebook (members_view v.items) reader.old reader.new) }
-    ensures shorter { OnOk result (length reader.new < length reader.old) }
+    made: &mut TreeMembers<'t>,
+) -> Result<(), Missed>
+    requires { made.old.items ≡ [] }
+    ensures { OnOk result (IsRead (members (value depth) (length reader.old)) are_members_in_range
+        kept_in_notebook (members_view made.new.items) reader.old reader.new) }
 {
-    let mut made = Vec::new(bump);
     loop {
         match reader.next_key() {
             Ok(Some(key)) => {
                 if key == "cells" {
+                    made.reserve(1)?;
                     let cells = read_cells(bump, reader, depth)?;
-                    if made.push((key, cells)).is_err() {
-                        return Err(Missed::Memory);
-                    }
+                    made.push_reserved((key, cells));
                 } else if key == "metadata" {
+                    made.reserve(1)?;
                     let metadata = read_value(bump, reader, depth)?;
-                    if made.push((key, metadata)).is_err() {
-                        return Err(Missed::Memory);
-                    }
+                    made.push_reserved((key, metadata));
                 } else if !pass_value(reader, depth) {
                     return Err(Missed::Unusual);
                 }
             }
-            Ok(None) => return Ok(made),
+            Ok(None) => return Ok(()),
             Err(_) => return Err(Missed::Unusual),
         }
     }
@@ -174,11 +184,11 @@ fn read_notebook<'t>(
         reader.old reader.new) }
 {
     match reader.next() {
-        Some(Token::BeginObject) if depth > 0 => Ok(Value::Object(notebook_members(
-            bump,
-            reader,
-            depth - 1,
-        )?)),
+        Some(Token::BeginObject) if depth > 0 => {
+            let mut made = Vec::new(bump);
+            put_notebook_members(bump, reader, depth - 1, &mut made)?;
+            Ok(Value::Object(made))
+        }
         _ => Err(Missed::Unusual),
     }
 }
@@ -192,9 +202,7 @@ pub(crate) fn read_kept<'t>(
     ensures { IfOk result (λ t. (j : Json) × (read_text text.now ≡ Some (unordered_data j))
         × (kept_of_notebook j ≡ value_view t)) }
 {
-    let Ok(mut reader) = Reader::new(text, scratch) else {
-        return Err(Missed::Memory);
-    };
+    let mut reader = Reader::new(text, scratch)?;
     let tree = read_notebook(bump, &mut reader, MAX_DEPTH)?;
     if reader.next().is_some() {
         return Err(Missed::Unusual);

@@ -1,6 +1,7 @@
 //! The cells of a notebook.
-ghost use Rattle.std.specs.Prelude.{◌≡◌, ◌<◌, length, map, option_map, IfOk, IfSome, Some};
+ghost use Rattle.std.specs.Prelude.{◌≡◌, ◌<◌, [], ◌∷◌, length, map, option_map, IfOk, IfSome, Some};
 ghost use Rattle.json.specs.Value.{value_view, items_view};
+ghost use Rattle.serde_json.specs.Data.{item, no_items};
 ghost use Rattle.serde_json.specs.Read.{read as read_text};
 ghost use Rattle.tokei_json_tree.specs.Unordered.{unordered_data, unordered_items};
 ghost use Rattle.tokei_notebook.specs.Cells.{cell_of, by_kernel, by_extension, get_in, code_language, text_of, joined};
@@ -118,7 +119,28 @@ fn source_of(alloc: Global, member: Option<&Tree<'_>>) -> Result<Vec<u8>, AllocE
     }
 }
 
-/// The cells of a list, Markdown cells in the one language and code cells in the other.
+/// The cell that a value is, Markdown in the one language and code in the other.
+fn cell_in(
+    alloc: Global,
+    markdown: LanguageType,
+    code: LanguageType,
+    value: &Tree<'_>,
+) -> Result<Cell, AllocError>
+    ensures { IfOk result (λ c. cell_of c ∷ []
+        ≡ cells_in markdown code (item (unordered_data (value_view value.now)) no_items)) }
+{
+    let language = if is_markdown(last_member(value, "cell_type")) {
+        markdown
+    } else {
+        code
+    };
+    Ok(Cell {
+        language,
+        source: source_of(alloc, last_member(value, "source"))?,
+    })
+}
+
+/// The cells of a list.
 fn cells_in(
     alloc: Global,
     markdown: LanguageType,
@@ -130,13 +152,8 @@ fn cells_in(
 {
     let mut cells = Vec::new(alloc);
     for item in items {
-        let language = if is_markdown(last_member(item, "cell_type")) {
-            markdown
-        } else {
-            code
-        };
-        let source = source_of(alloc, last_member(item, "source"))?;
-        cells.push(Cell { language, source })?;
+        let cell = cell_in(alloc, markdown, code, item)?;
+        cells.push(cell)?;
     }
     Ok(cells)
 }

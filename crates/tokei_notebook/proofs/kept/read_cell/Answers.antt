@@ -4,8 +4,8 @@ use Rattle.tokei_notebook.specs.Kept.{kept_in_cell, kept_of_cell}
 use Rattle.tokei_notebook.proofs.Left.{object_made}
 use Rattle.tokei_notebook.proofs.kept.read_cell.Goals as goal
 
-pub returns-in_ok-cell_members-in-Some-BeginObject-clause-read : goal.returns-in_ok-cell_members-in-Some-BeginObject-clause-read
-returns-in_ok-cell_members-in-Some-BeginObject-clause-read c =
-    let made = c.in_ok-cell_members-in-Some-BeginObject in
-    object_made c.args.depth c.args.reader.now c.next.new.self c.cell_members.new.reader (omega arith) kept_of_cell kept_in_cell (λ ms. refl) made.field-0
+pub returns-in_ok-put_cell_members-in-Some-BeginObject-clause-read : goal.returns-in_ok-put_cell_members-in-Some-BeginObject-clause-read
+returns-in_ok-put_cell_members-in-Some-BeginObject-clause-read c =
+    let made = c.in_ok-put_cell_members-in-Some-BeginObject in
+    object_made c.args.depth c.args.reader.now c.next.new.self c.put_cell_members.new.reader (omega arith) kept_of_cell kept_in_cell (λ ms. refl) c.put_cell_members.new.made
     (c.in-Some-BeginObject.ensures.value ∙ ap (λ k. token_of k ∷ c.next.new.self) c.in-Some-BeginObject.field-0-is) made.ensures.read

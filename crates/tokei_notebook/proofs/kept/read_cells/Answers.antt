@@ -4,8 +4,8 @@ use Rattle.tokei_notebook.specs.Kept.{kept_of_items, kept_of_cells}
 use Rattle.tokei_notebook.proofs.Left.{array_made}
 use Rattle.tokei_notebook.proofs.kept.read_cells.Goals as goal
 
-pub returns-in_ok-cell_items-in-Some-BeginArray-clause-read : goal.returns-in_ok-cell_items-in-Some-BeginArray-clause-read
-returns-in_ok-cell_items-in-Some-BeginArray-clause-read c =
-    let made = c.in_ok-cell_items-in-Some-BeginArray in
-    array_made c.args.depth c.args.reader.now c.next.new.self c.cell_items.new.reader (omega arith) kept_of_cells kept_of_items (λ js. refl) made.field-0
+pub returns-in_ok-put_cells-in-Some-BeginArray-clause-read : goal.returns-in_ok-put_cells-in-Some-BeginArray-clause-read
+returns-in_ok-put_cells-in-Some-BeginArray-clause-read c =
+    let made = c.in_ok-put_cells-in-Some-BeginArray in
+    array_made c.args.depth c.args.reader.now c.next.new.self c.put_cells.new.reader (omega arith) kept_of_cells kept_of_items (λ js. refl) c.put_cells.new.made
     (c.in-Some-BeginArray.ensures.value ∙ ap (λ k. token_of k ∷ c.next.new.self) c.in-Some-BeginArray.field-0-is) made.ensures.read

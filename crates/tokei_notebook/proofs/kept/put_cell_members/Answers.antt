@@ -1,22 +1,23 @@
-use Rattle.std.proofs.Common.{◌≡◌, ◌++◌, ◌∷◌, [], Some, option_map, refl, sym, ◌∙◌, subst, rules}
+use Rattle.std.proofs.Common.{◌≡◌, ◌++◌, ◌∷◌, [], Some, option_map, refl, sym, ◌∙◌, ap, subst}
 use Rattle.json.specs.Json.{read_key, value}
 use Rattle.tokei_notebook.specs.Kept.{itself, kept_in_cell}
 use Rattle.tokei_notebook.proofs.KeptMembers.{member_kept, member_passed}
 use Rattle.tokei_notebook.proofs.Left.{member_made, member_passed_over, members_made, none_made}
-use Rattle.tokei_notebook.proofs.kept.cell_members.Goals as goal
+use Rattle.tokei_notebook.proofs.kept.put_cell_members.Goals as goal
 
 pub loop-key-init : goal.loop-key-init
-loop-key-init c = none_made (value c.args.depth) kept_in_cell c.args.reader.now c.new-made.result.items c.new-made.ensures.items
+loop-key-init c = none_made (value c.args.depth) kept_in_cell c.args.reader.now c.args.made.now.items c.requires
 
-pub loop-key-preserved-else-is_err : goal.loop-key-preserved-else-is_err
-loop-key-preserved-else-is_err c =
+pub loop-key-preserved-then-is_kept_in_cell : goal.loop-key-preserved-then-is_kept_in_cell
+loop-key-preserved-then-is_kept_in_cell c =
     let l = c.loop-key in
     let k = c.in-Ok-Some.key in
     let v = c.in_ok-value-in-Ok-Some.value in
     let key : read_key l.reader ≡ Some (Some k.now, c.next_key.new.self) =
     subst (λ o. read_key l.reader ≡ Some (option_map (λ s. s.now) o, c.next_key.new.self)) c.in-Ok-Some.field-0-is c.in-Ok-Some.ensures.value in
-    let longer : c.push.new.self.items ≡ l.made.items ++ (k, v) ∷ [] = search rules in
-    member_made l.invariant c.read_value.new.reader k.now key c.in_ok-value-in-Ok-Some.ensures.shorter itself (k, v) c.push.new.self.items refl longer
+    let longer : c.push_reserved.new.self.items ≡ l.made.items ++ (k, v) ∷ [] =
+    c.push_reserved.ensures.items ∙ ap (λ xs. xs ++ (k, v) ∷ []) c.reserve.ensures.items in
+    member_made l.invariant c.read_value.new.reader k.now key c.in_ok-value-in-Ok-Some.ensures.shorter itself (k, v) c.push_reserved.new.self.items refl longer
     c.in_ok-value-in-Ok-Some.ensures.read (λ j ms. member_kept k.now j ms (sym c.is_kept_in_cell.ensures ∙ c.if-is_kept_in_cell.true))
 
 pub loop-key-preserved : goal.loop-key-preserved
