@@ -3,6 +3,7 @@
 pub mod Configs
 pub mod Directories
 pub mod Earlier
+pub mod Endings
 pub mod FlawLines
 pub mod Messages
 pub mod NoteLines

@@ -1,11 +1,12 @@
 //! What the command line and the environment name, as it is found: the table of languages, the
 //! configuration, earlier results, and whether something stands at each root.
-ghost use Rattle.std.specs.Prelude.{◌≡◌, true, IfErr, IfOk, OnOk, Some, Ok};
+ghost use Rattle.std.specs.Prelude.{◌≡◌, true, IfErr, IfOk, OnOk, None, Some, Ok};
 ghost use Rattle.tokei_cli.specs.CommandLines.{file_input_of};
 ghost use Rattle.tokei_folders.specs.Answers.{Told};
 ghost use Rattle.tokei_folders.specs.AsTheyWere.{SameTree};
 ghost use Rattle.tokei_invocation.specs.Configs.{AreFlaws, IsConfig};
 ghost use Rattle.tokei_invocation.specs.Earlier.{AreEarlier, AreRead, bytes_named};
+ghost use Rattle.tokei_invocation.specs.Endings.{IsEndingAt};
 ghost use Rattle.tokei_invocation.specs.Roots.{AllStand, stands};
 ghost use Rattle.tokei_invocation.specs.Statuses.{status_of};
 ghost use Rattle.tokei_invocation.specs.Tables.{place_of_table, table_at};
@@ -74,6 +75,7 @@ fn place_and_cause<F: Folders>(
 fn no_table<F: Folders>(alloc: Global, folders: &mut F, place: &str) -> Ending
     ensures same { SameTree F.tree folders.old folders.new }
     ensures failed { status_of result ≡ 1 }
+    ensures told { IsEndingAt None result }
 {
     match place_and_cause(alloc, folders, place) {
         Ok(text) => Ending::NoTable(text),
@@ -81,7 +83,9 @@ fn no_table<F: Folders>(alloc: Global, folders: &mut F, place: &str) -> Ending
     }
 }
 
-/// The table that the command line names, else the one of the environment.
+/// The table that the command line names, else the one of the environment. Over a known tree
+/// `NoTable` says that no file can be read at its place, and `Table` or `TableFlaw` why the one there
+/// is refused; else memory ran out.
 pub fn table_of<F: Folders>(
     alloc: Global,
     cli: &Cli,
@@ -91,6 +95,8 @@ pub fn table_of<F: Folders>(
     ensures same { SameTree F.tree folders.old folders.new }
     ensures told { Told (F.tree folders.old) (λ t. IfOk result
         (λ rows. table_at t (place_of_table env.now cli.now) ≡ Some (Ok rows))) }
+    ensures cause { Told (F.tree folders.old) (λ t. IfErr result
+        (λ e. IsEndingAt (table_at t (place_of_table env.now cli.now)) e)) }
     ensures failed { IfErr result (λ e. status_of e ≡ 1) }
 {
     let place = place_of_table(cli, env);

@@ -1,5 +1,6 @@
 //! How a run ends, in the words that folders, readers and writers have for it.
-ghost use Rattle.std.specs.Prelude.{◌≡◌};
+ghost use Rattle.std.specs.Prelude.{◌≡◌, true};
+ghost use Rattle.tokei_invocation.specs.Endings.{is_ending_of, is_out_of_memory, is_unreadable, is_unwritten, IsEndingOfTable};
 ghost use Rattle.tokei_invocation.specs.Statuses.{status_of};
 
 use crate::ending::Ending;
@@ -19,7 +20,8 @@ fn some_words(words: Result<String, AllocError>) -> Option<String> {
 
 /// Memory ran out: for the content of the place that folders name, where they do.
 pub fn no_memory<F: Folders>(alloc: Global, folders: &F) -> Ending
-    ensures { status_of result ≡ 1 }
+    ensures failed { status_of result ≡ 1 }
+    ensures told { is_out_of_memory result ≡ true }
 {
     match some_words(shown(alloc, folders.unheld())) {
         Some(place) => Ending::NoRoom(place),
@@ -37,7 +39,8 @@ fn flaw_in(alloc: Global, bytes: &[u8]) -> Result<Option<String>, AllocError> {
 
 /// A table is refused: with the language and the member that go wrong, where those can be told.
 pub fn refused_table(alloc: Global, error: TableError, bytes: &[u8]) -> Ending
-    ensures { status_of result ≡ 1 }
+    ensures failed { status_of result ≡ 1 }
+    ensures told { IsEndingOfTable error result }
 {
     match flaw_in(alloc, bytes) {
         Ok(Some(flaw)) => Ending::TableFlaw(flaw),
@@ -48,7 +51,8 @@ pub fn refused_table(alloc: Global, error: TableError, bytes: &[u8]) -> Ending
 
 /// Earlier results couldn't be read from a source.
 pub fn unreadable<S: Source>(alloc: Global, source: &S) -> Ending
-    ensures { status_of result ≡ 1 }
+    ensures failed { status_of result ≡ 1 }
+    ensures told { is_unreadable result ≡ true }
 {
     match some_words(source.cause(alloc)) {
         Some(cause) => Ending::UnreadableBy(cause),
@@ -58,7 +62,8 @@ pub fn unreadable<S: Source>(alloc: Global, source: &S) -> Ending
 
 /// A writer had a fault.
 fn unwritten<W: Sink>(alloc: Global, writer: &W) -> Ending
-    ensures { status_of result ≡ 1 }
+    ensures failed { status_of result ≡ 1 }
+    ensures told { is_unwritten result ≡ true }
 {
     match some_words(writer.cause(alloc)) {
         Some(cause) => Ending::Unwritten(cause),
@@ -68,7 +73,8 @@ fn unwritten<W: Sink>(alloc: Global, writer: &W) -> Ending
 
 /// An output ended.
 pub fn ended<W: Sink>(alloc: Global, error: OutputError, writer: &W) -> Ending
-    ensures { status_of result ≡ 1 }
+    ensures failed { status_of result ≡ 1 }
+    ensures told { is_ending_of error result ≡ true }
 {
     match error {
         OutputError::Memory => Ending::Memory,
@@ -84,7 +90,8 @@ pub fn run_ended<F: Folders, W: Sink>(
     folders: &F,
     writer: &W,
 ) -> Ending
-    ensures { status_of result ≡ 1 }
+    ensures failed { status_of result ≡ 1 }
+    ensures told { is_ending_of error result ≡ true }
 {
     match error {
         OutputError::Memory => no_memory(alloc, folders),
