@@ -3,7 +3,7 @@
 use Rattle.std.specs.Prelude.{ℕ, List, Bool, true, false, ◌&&◌, ◌||◌, not, Option, None, Some, is_some, codes, bytes_eq, if◌then◌else◌}
 use Rattle.serde_json.specs.Data.{Data, array, object, Members, no_members, member}
 use Rattle.serde_json.specs.Find.{get}
-use Rattle.tokei_table_json.specs.Layout.{absent_or, all_items}
+use Rattle.tokei_json_tree.specs.Shapes.{absent_or, all_items}
 use Rattle.tokei_table.specs.Lookups.{first_where, has_name, row_at}
 use Rattle.tokei_table.specs.Row.{Row}
 use Rattle.tokei_json.specs.declared.language_maps.MapTest.{MapTest}

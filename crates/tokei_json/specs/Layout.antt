@@ -3,7 +3,7 @@ use Rattle.std.specs.Prelude.{Bool, true, false, ◌&&◌, ◌||◌, not, is_som
 use Rattle.serde_json.specs.Data.{Data, object, Members, no_members, member}
 use Rattle.serde_json.specs.Find.{get, as_number, as_u64}
 use Rattle.serde_json.specs.Written.{has_float}
-use Rattle.tokei_table_json.specs.Layout.{is_list, is_text, is_truth_value, stands_and}
+use Rattle.tokei_json_tree.specs.Shapes.{is_list, is_text, is_truth_value, stands_and}
 
 -- a whole number of 64 bits that isn't negative
 abbrev pub is_count : Data → Bool

@@ -2,7 +2,7 @@
 //! them once.
 ghost use Rattle.std.specs.Prelude.{◌≡◌, ◌&&◌, ◌||◌, bytes_eq, codes, is_some, option_map, IfSome};
 ghost use Rattle.json.specs.Value.{value_view, members_view};
-ghost use Rattle.tokei_table_json.specs.Layout.{absent_or};
+ghost use Rattle.tokei_json_tree.specs.Shapes.{absent_or};
 ghost use Rattle.tokei_json_tree.specs.Ordered.{IsOrdered, AreMembersOrdered};
 ghost use Rattle.tokei_json_tree.specs.TreeData.{data_of, members_data};
 ghost use Rattle.tokei_json.specs.LanguageMaps.{all_names, language_named, has_both, names_once, passes};

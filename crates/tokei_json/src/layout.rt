@@ -2,7 +2,7 @@
 ghost use Rattle.std.specs.Prelude.{◌≡◌, false, option_map, IfSome};
 ghost use Rattle.json.specs.Value.{value_view, members_view};
 ghost use Rattle.serde_json.specs.Written.{has_float};
-ghost use Rattle.tokei_table_json.specs.Layout.{is_text, is_truth_value, stands_and};
+ghost use Rattle.tokei_json_tree.specs.Shapes.{is_text, is_truth_value, stands_and};
 ghost use Rattle.tokei_json_tree.specs.Ordered.{IsOrdered, AreMembersOrdered};
 ghost use Rattle.tokei_json_tree.specs.TreeData.{data_of, members_data};
 ghost use Rattle.tokei_json.specs.Layout.{is_count, has_counts, is_statistics, are_blobs, is_report};

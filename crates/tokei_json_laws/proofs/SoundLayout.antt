@@ -10,7 +10,7 @@ use Rattle.tokei_languages.specs.Summaries.{total_of}
 use Rattle.tokei_stats.specs.Statistics.{Statistics, Blobs}
 use Rattle.tokei_stats.specs.Statistics.Statistics.{node}
 use Rattle.tokei_stats.specs.Statistics.Blobs.{none, blob}
-use Rattle.tokei_table_json.specs.Layout.{all_items}
+use Rattle.tokei_json_tree.specs.Shapes.{all_items}
 use Rattle.tokei_table.specs.Row.{Row}
 use Rattle.tokei_languages.specs.Names.{name_in}
 use Rattle.tokei_json.specs.Document.{statistics_data, blobs_data, report_data, reports_data, named_data, language_data, document}

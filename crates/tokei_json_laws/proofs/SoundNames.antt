@@ -12,7 +12,7 @@ use Rattle.tokei_languages.specs.Summaries.{total_of}
 use Rattle.tokei_stats.specs.Statistics.{Statistics, Blobs}
 use Rattle.tokei_stats.specs.Statistics.Statistics.{node}
 use Rattle.tokei_stats.specs.Statistics.Blobs.{none, blob}
-use Rattle.tokei_table_json.specs.Layout.{all_items}
+use Rattle.tokei_json_tree.specs.Shapes.{all_items}
 use Rattle.tokei_table.specs.Lookups.{row_at}
 use Rattle.tokei_table.specs.Row.{Row}
 use Rattle.tokei_table.specs.RowNames.{names_twice, is_total}

@@ -1,8 +1,13 @@
 pub mod Conversions
+pub mod Emptied
+pub mod EmptiedMembers
 pub mod NumberCounts
 pub mod Found
 pub mod Left
+pub mod MadeSoFar
 pub mod Orderings
 pub mod Plain
 pub mod Steps
+pub mod TokensRead
 pub mod Unordered
+pub mod Utf8

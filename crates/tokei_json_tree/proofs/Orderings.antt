@@ -117,7 +117,7 @@ module _ (A : Type 0) where
 pub untrue : {P : Type 0} → false ≡ true → P
 untrue e = absurd cc
 
-none_either : (a b : Bool) → a ≡ false → b ≡ false → (a || b) ≡ false
+pub none_either : (a b : Bool) → a ≡ false → b ≡ false → (a || b) ≡ false
 none_either a b e f = ap (λ x. x || b) e ∙ f
 
 whole_either : (o : Ordering) (a b c : Members) → members_have_float a ≡ false → members_have_float b ≡ false → members_have_float c ≡ false
@@ -126,11 +126,11 @@ whole_either Less a b c ha hb hc = ha
 whole_either Equal a b c ha hb hc = hb
 whole_either Greater a b c ha hb hc = hc
 
-first_none : (a b : Bool) → (a || b) ≡ false → a ≡ false
+pub first_none : (a b : Bool) → (a || b) ≡ false → a ≡ false
 first_none true b e = e
 first_none false b e = refl
 
-second_none : (a b : Bool) → (a || b) ≡ false → b ≡ false
+pub second_none : (a b : Bool) → (a || b) ≡ false → b ≡ false
 second_none true b e = absurd cc
 second_none false b e = e
 
@@ -154,7 +154,7 @@ item_ordered old new olds news h more = record {
 }
 
 -- a number that reads as a count stands for what it reads as
-count_whole : (n : Option Num) → is_some (option_and_then as_u64 n) ≡ true
+pub count_whole : (n : Option Num) → is_some (option_and_then as_u64 n) ≡ true
     → (option_map number n ≡ Some (number_data n)) × (has_float (number_data n) ≡ false)
 count_whole None e = absurd cc
 count_whole (Some (unsigned n)) e = (refl, refl)

@@ -1,9 +1,10 @@
 -- The data that a tree stands for whose objects have their keys in any order, and some twice.
-use Rattle.std.specs.Prelude.{Bool, true, ◌&&◌, is_some}
+use Rattle.std.specs.Prelude.{Bool}
 use Rattle.json.specs.Json as json
 use Rattle.serde_json.specs.Data.{Data, null, boolean, string, array, object}
 use Rattle.serde_json.specs.Data.{Items, no_items, item, Members, no_members, put}
 use Rattle.serde_json.specs.Read.{number_of}
+use Rattle.tokei_json_tree.specs.Numbers.{has_value, numbers_pass, items_pass, members_pass}
 use Rattle.tokei_json_tree.specs.TreeData.{number_data}
 
 abbrev mutual
@@ -28,22 +29,14 @@ abbrev mutual
   unordered_members (json.member k j ms) found =
       unordered_members ms (put k (unordered_data j) found)
 
-abbrev mutual
-  -- Each number in a value can be read: none is too large for a float.
-  pub is_in_range : json.Json → Bool
-  is_in_range json.null = true
-  is_in_range (json.boolean b) = true
-  is_in_range (json.number s) = is_some (number_of s)
-  is_in_range (json.string s) = true
-  is_in_range (json.array js) = are_items_in_range js
-  is_in_range (json.object ms) = are_members_in_range ms
+-- Each number in a value can be read: none is too large for a float.
+abbrev pub is_in_range : json.Json → Bool
+is_in_range value = numbers_pass has_value value
 
-  -- In each item of a list.
-  pub are_items_in_range : json.Items → Bool
-  are_items_in_range json.no_items = true
-  are_items_in_range (json.item j js) = is_in_range j && are_items_in_range js
+-- In each item of a list.
+abbrev pub are_items_in_range : json.Items → Bool
+are_items_in_range items = items_pass has_value items
 
-  -- In each member of an object.
-  pub are_members_in_range : json.Members → Bool
-  are_members_in_range json.no_members = true
-  are_members_in_range (json.member k j ms) = is_in_range j && are_members_in_range ms
+-- In each member of an object.
+abbrev pub are_members_in_range : json.Members → Bool
+are_members_in_range members = members_pass has_value members

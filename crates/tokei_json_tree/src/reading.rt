@@ -7,19 +7,19 @@ ghost use Rattle.serde_json.specs.Written.{has_float as data_has_float};
 ghost use Rattle.tokei_json_tree.specs.Reading.{IsReadingOf};
 ghost use Rattle.tokei_json_tree.specs.TreeData.{data_of};
 ghost use Rattle.tokei_json_tree.specs.Unordered.{unordered_data};
+ghost use Rattle.tokei_json_tree.specs.Without.{IsReadingWithout};
 
 use crate::converted::converted;
 use crate::fractions::has_float;
+use crate::missed::Missed;
 use crate::ordering::{is_plain, ordered};
 use crate::ranges::is_in_range;
-use crate::tree::Tree;
+use crate::tree::{MAX_DEPTH, Tree};
+use crate::without::tree_without;
 use bumpalo::Bump;
 use json::{Reader, Scratch};
 use serde_json::Value;
 use std::alloc::{AllocError, Global};
-
-/// How deep lists and objects stand in one another at most, as in `serde_json`.
-const MAX_DEPTH: usize = 127;
 
 /// Why a text has no tree.
 #[derive(Clone, Copy, Debug, PartialEq, Eq)]
@@ -136,6 +136,24 @@ pub fn read<'t>(alloc: Global, room: &'t mut Room, text: &'t str) -> Result<Read
         tree: converted(alloc, bump, value)?,
         has_fraction: has_float(value),
     })
+}
+
+/// Reads a text that is an object, but for its members of that name: of these the tree holds `null`
+/// in place of what stands there, so it takes no room for it. `Unusual` is what isn't JSON, and what
+/// `read` reads by the value of `serde_json`; it says nothing more of the text. `Memory` comes only
+/// where an allocation failed.
+pub fn read_without<'t>(room: &'t mut Room, text: &'t str, name: &str) -> Result<Tree<'t>, Missed>
+    ensures { IfOk result (λ t. IsReadingWithout name.now text.now (value_view t)) }
+{
+    let bump = &room.bump;
+    let tree = tree_without(bump, &mut room.scratch, text, name)?;
+    if is_plain(&tree) {
+        return Ok(tree);
+    }
+    match ordered(bump, &tree)? {
+        Some(tree) => Ok(tree),
+        None => Err(Missed::Unusual),
+    }
 }
 
 /// Reads a text whose objects may have their keys in any order, and some twice: it leaves them so,

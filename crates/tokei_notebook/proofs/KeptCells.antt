@@ -12,7 +12,7 @@ use Rattle.tokei_notebook.specs.Kept.{is_kept_in_cell, kept_in_cell, kept_of_cel
 use Rattle.tokei_notebook.specs.Layout.{has_metadata, has_notebook_layout, is_cell, is_code, is_markdown}
 use Rattle.tokei_table.specs.Families.{fallback}
 use Rattle.tokei_table.specs.Row.{Row}
-use Rattle.tokei_table_json.specs.Layout.{all_items, is_list, is_text, stands_and}
+use Rattle.tokei_json_tree.specs.Shapes.{all_items, is_list, is_text, stands_and}
 use Rattle.tokei_notebook.proofs.KeptMembers.{cells_kept, member_kept, member_passed, metadata_kept, other_passed}
 
 -- names that a test tells apart

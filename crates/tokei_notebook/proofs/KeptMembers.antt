@@ -1,4 +1,4 @@
--- What is kept of a notebook tells the same cells as the whole.
+-- What is kept of members, one by one: a member that is kept, and one that is passed over.
 use Rattle.std.proofs.Common.{◌≡◌, ℕ, List, Bool, true, false, if◌then◌else◌, codes, bytes_eq, ap, ◌∙◌}
 use Rattle.json.specs.Json.{Json, Members, member}
 use Rattle.tokei_notebook.specs.Kept.{is_kept_in_cell, kept_in_cell, kept_of_cells, kept_in_notebook}

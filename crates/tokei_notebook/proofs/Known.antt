@@ -2,7 +2,7 @@
 use Rattle.std.proofs.Common.{ℕ, ◌<◌, Bool, true, false, cond, Option, Some, None, codes}
 use Rattle.serde_json.specs.Data.{Data, null, boolean, number, string, array, object, Items, no_items, item}
 use Rattle.serde_json.specs.Find.{get}
-use Rattle.tokei_table_json.specs.Layout.{stands_and}
+use Rattle.tokei_json_tree.specs.Shapes.{stands_and}
 use Rattle.tokei_notebook.specs.Layout.{is_markdown}
 use Rattle.tokei_notebook.specs.Cells.{cells_in, cells_at, AreKnown}
 

@@ -5,7 +5,7 @@ use Rattle.serde_json.specs.Data.{Data, string}
 use Rattle.serde_json.specs.Find.{get}
 use Rattle.tokei_table.specs.Families.{fallback}
 use Rattle.tokei_table.specs.Lookups.{first_where, or_else, has_extension, has_name, has_name_in_any_case}
-use Rattle.tokei_table_json.specs.Outcome.{data_of}
+use Rattle.tokei_json_tree.specs.Bytes.{data_of_bytes}
 use Rattle.tokei_table.specs.Row.{Row}
 use Rattle.tokei_notebook.specs.Cells.{AreKnown, by_extension, by_kernel, cells_at, cells_of, code_language, get_in, notebook_cells}
 use Rattle.tokei_notebook.specs.Layout.{has_notebook_layout}
@@ -72,4 +72,4 @@ module _ (rows : List Row) (notebook : ℕ) (known : notebook < length rows) whe
       by_test false = tt
 
   pub notebook_known : (t : List ℕ) → AreKnown (length rows) (notebook_cells rows notebook t)
-  notebook_known t = of_known (data_of t)
+  notebook_known t = of_known (data_of_bytes t)

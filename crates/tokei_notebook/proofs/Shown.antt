@@ -5,7 +5,7 @@ use Rattle.serde_json.specs.Read.{read}
 use Rattle.tokei_json_tree.specs.declared.reading.ReadError.TheVariants.{Memory, NotJson}
 use Rattle.tokei_notebook.specs.Cells.{cells_of, notebook_cells}
 use Rattle.tokei_table.specs.Row.{Row}
-use Rattle.tokei_table_json.proofs.Utf8.{data_none, data_read}
+use Rattle.tokei_json_tree.proofs.Utf8.{data_none, data_read}
 
 -- what holds of an answer, where another thing does
 pub if_ok : {A B : Type 0} {P Q : A → Type 0} (r : Result A B) → ((a : A) → P a → Q a) → IfOk r P → IfOk r Q

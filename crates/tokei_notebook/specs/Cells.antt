@@ -4,9 +4,9 @@ use Rattle.std.specs.Prelude.{Option, Some, None, option_and_then, unwrap_or}
 use Rattle.serde_json.specs.Data.{Data, string, array, Items, no_items, item}
 use Rattle.serde_json.specs.Find.{get}
 use Rattle.tokei_table.specs.Families.{fallback}
-use Rattle.tokei_table_json.specs.Layout.{stands_and}
+use Rattle.tokei_json_tree.specs.Shapes.{stands_and}
 use Rattle.tokei_table.specs.Lookups.{first_where, or_else, has_name_in_any_case, has_extension}
-use Rattle.tokei_table_json.specs.Outcome.{data_of}
+use Rattle.tokei_json_tree.specs.Bytes.{data_of_bytes}
 use Rattle.tokei_table.specs.Row.{Row}
 use Rattle.tokei_notebook.specs.Layout.{is_markdown, has_notebook_layout}
 use Rattle.tokei_notebook.specs.declared.notebook.Cell.{Cell as CodeCell}
@@ -85,7 +85,7 @@ cells_of rows notebook (Some d) =
 
 -- The cells of a text in the language of notebooks; a text that isn't a notebook has none.
 abbrev pub notebook_cells : List Row → ℕ → List ℕ → List Cell
-notebook_cells rows notebook text = cells_of rows notebook (data_of text)
+notebook_cells rows notebook text = cells_of rows notebook (data_of_bytes text)
 
 -- each cell's language is below the limit
 abbrev pub AreKnown : ℕ → List Cell → Type 0

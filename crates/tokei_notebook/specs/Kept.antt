@@ -1,7 +1,6 @@
 -- What is kept of a notebook's JSON when it is read: the members by which its cells are told.
-use Rattle.std.specs.Prelude.{◌≡◌, ℕ, List, Bool, true, ◌||◌, if◌then◌else◌, Some, ⊤, codes, bytes_eq}
-use Rattle.json.specs.Json.{Json, array, object, Items, no_items, item, Members, no_members, member, Parse}
-use Rattle.json.specs.Token.{Token}
+use Rattle.std.specs.Prelude.{ℕ, List, Bool, ◌||◌, if◌then◌else◌, codes, bytes_eq}
+use Rattle.json.specs.Json.{Json, array, object, Items, no_items, item, Members, no_members, member}
 
 -- The names of a cell's members that are asked for.
 abbrev pub is_kept_in_cell : List ℕ → Bool
@@ -40,24 +39,3 @@ kept_in_notebook (member k j ms) =
 abbrev pub kept_of_notebook : Json → Json
 kept_of_notebook (object ms) = object (kept_in_notebook ms)
 kept_of_notebook value = value
-
--- Tokens begin with something whose numbers are in range; what is kept of it was made, and the
--- other tokens are left.
-pub record IsRead {A B : Type 0} (parse : Parse A) (holds : A → Bool) (kept : A → B) (result : B)
-    (tokens left : List Token) : Type 0 where
-  pub whole : A
-  pub reads : parse tokens ≡ Some (whole, left)
-  pub in_range : holds whole ≡ true
-  pub made : kept whole ≡ result
-
--- All of it is kept.
-abbrev pub itself : Json → Json
-itself whole = whole
-
--- Nothing is kept of something that is passed over.
-abbrev pub nothing : {A : Type 0} → A → ⊤
-nothing whole = tt
-
--- The same of something of which nothing is kept.
-abbrev pub IsPassed : {A : Type 0} → Parse A → (A → Bool) → List Token → List Token → Type 0
-IsPassed parse holds tokens left = IsRead parse holds nothing tt tokens left

@@ -2,7 +2,7 @@
 use Rattle.std.specs.Prelude.{Bool, false, ◌&&◌, ◌||◌, is_some, codes, bytes_eq}
 use Rattle.serde_json.specs.Data.{Data, string}
 use Rattle.serde_json.specs.Find.{get}
-use Rattle.tokei_table_json.specs.Layout.{stands_and, is_text, is_list}
+use Rattle.tokei_json_tree.specs.Shapes.{stands_and, is_text, is_list}
 
 -- The text of a Markdown cell's kind.
 abbrev pub is_markdown : Data → Bool

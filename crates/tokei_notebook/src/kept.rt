@@ -5,37 +5,15 @@ ghost use Rattle.json.specs.Json.{Json, items, members, value};
 ghost use Rattle.json.specs.Value.{value_view, items_view, members_view};
 ghost use Rattle.serde_json.specs.Read.{read as read_text};
 ghost use Rattle.tokei_json_tree.specs.Unordered.{unordered_data, is_in_range, are_items_in_range, are_members_in_range};
-ghost use Rattle.tokei_notebook.specs.Kept.{IsRead, itself, is_kept_in_cell, kept_in_cell, kept_of_cell, kept_of_items};
+ghost use Rattle.tokei_json_tree.specs.Tokens.{IsRead, itself};
+ghost use Rattle.tokei_notebook.specs.Kept.{is_kept_in_cell, kept_in_cell, kept_of_cell, kept_of_items};
 ghost use Rattle.tokei_notebook.specs.Kept.{kept_of_cells, kept_in_notebook, kept_of_notebook};
 
-use crate::passing::pass_value;
 use bumpalo::Bump;
 use json::{Error, Reader, Scratch, Token, Value};
-use std::alloc::AllocError;
-use tokei_json_tree::{Tree, TreeItems, TreeMembers, is_in_range};
-
-/// How deep lists and objects stand in one another at most, as in `serde_json`.
-const MAX_DEPTH: usize = 127;
-
-/// Why a text isn't read so.
-pub(crate) enum Missed {
-    /// An allocation failed.
-    Memory,
-    /// The text isn't JSON, a number in it has no value, or it is no object whose cells are a list
-    /// of objects.
-    Unusual,
-}
-
-impl From<AllocError> for Missed {
-    ghost use Rattle.std.specs.Prelude.{◌≡◌};
-    ghost use Rattle.tokei_notebook.specs.declared.kept.Missed.TheVariants.{Memory};
-
-    ghost from_gives = { λ _ e. e ≡ Memory };
-
-    fn from(_refused: AllocError) -> Missed {
-        Missed::Memory
-    }
-}
+use tokei_json_tree::{
+    MAX_DEPTH, Missed, Numbers, Tree, TreeItems, TreeMembers, is_in_range, pass_value,
+};
 
 /// The next value, whose lists and objects may nest `depth` deep.
 fn read_value<'t>(bump: &'t Bump, reader: &mut Reader<'t>, depth: usize) -> Result<Tree<'t>, Missed>
@@ -80,7 +58,7 @@ fn put_cell_members<'t>(
                     made.reserve(1)?;
                     let value = read_value(bump, reader, depth)?;
                     made.push_reserved((key, value));
-                } else if !pass_value(reader, depth) {
+                } else if !pass_value(reader, depth, Numbers::InRange) {
                     return Err(Missed::Unusual);
                 }
             }
@@ -164,7 +142,7 @@ fn put_notebook_members<'t>(
                     made.reserve(1)?;
                     let metadata = read_value(bump, reader, depth)?;
                     made.push_reserved((key, metadata));
-                } else if !pass_value(reader, depth) {
+                } else if !pass_value(reader, depth, Numbers::InRange) {
                     return Err(Missed::Unusual);
                 }
             }
@@ -193,7 +171,8 @@ fn read_notebook<'t>(
     }
 }
 
-/// What is kept of the notebook that a text holds. `Unusual` says nothing of the text.
+/// What is kept of the notebook that a text holds. `Unusual` is no JSON, a number without a value,
+/// and what is no object whose cells are a list of objects.
 pub(crate) fn read_kept<'t>(
     bump: &'t Bump,
     scratch: &'t mut Scratch,

@@ -2,7 +2,7 @@
 ghost use Rattle.std.specs.Prelude.{◌≡◌, ◌||◌, option_map};
 ghost use Rattle.json.specs.Value.{value_view, items_view};
 ghost use Rattle.tokei_json_tree.specs.Unordered.{unordered_data, unordered_items};
-ghost use Rattle.tokei_table_json.specs.Layout.{all_items, is_list, is_text, stands_and};
+ghost use Rattle.tokei_json_tree.specs.Shapes.{all_items, is_list, is_text, stands_and};
 ghost use Rattle.tokei_notebook.specs.Layout.{is_markdown, is_code, is_cell, has_metadata, has_notebook_layout};
 
 use json::Value;

@@ -4,6 +4,5 @@
 mod kept;
 mod layout;
 mod notebook;
-mod passing;
 
 pub use notebook::{Cell, cells};

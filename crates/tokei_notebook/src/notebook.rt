@@ -8,12 +8,12 @@ ghost use Rattle.tokei_notebook.specs.Cells.{cell_of, by_kernel, by_extension, g
 ghost use Rattle.tokei_notebook.specs.Cells.{source_of, cells_in, cells_at, cells_of, notebook_cells, AreKnown};
 ghost use Rattle.tokei_table.specs.Families.{fallback};
 
-use crate::kept::{Missed, read_kept};
+use crate::kept::read_kept;
 use crate::layout::{has_notebook_layout, is_markdown};
 use bumpalo::Bump;
 use json::{Scratch, Value};
 use std::alloc::{AllocError, Global};
-use tokei_json_tree::{ReadError, Room, Tree, TreeItems, last_member, read_unordered};
+use tokei_json_tree::{Missed, ReadError, Room, Tree, TreeItems, last_member, read_unordered};
 use tokei_table::{LanguageTable, LanguageType};
 
 /// A cell of a notebook.

@@ -10,7 +10,7 @@ use Rattle.serde_json.specs.Data.{Data, Members, no_members, member}
 use Rattle.tokei_json_tree.specs.Ordered.{IsOrdered, AreItemsOrdered, AreMembersOrdered}
 use Rattle.tokei_json_tree.specs.TreeData.{data_of, items_data, members_data}
 use Rattle.tokei_json_tree.proofs.Steps.{from_item}
-use Rattle.tokei_table_json.specs.Layout.{all_items}
+use Rattle.tokei_json_tree.specs.Shapes.{all_items}
 
 abbrev pub TreeMember : Type 0 → Type 0
 TreeMember A = Bor (List ℕ) × Value A

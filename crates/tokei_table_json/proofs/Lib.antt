@@ -19,5 +19,4 @@ pub mod PlainTables
 pub mod Readings
 pub mod Refused
 pub mod RowKinds
-pub mod Utf8
 pub mod Views

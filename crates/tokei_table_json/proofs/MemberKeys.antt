@@ -4,7 +4,8 @@ use Rattle.std.proofs.lemmas.Slice.Eq.{bytes_eq-Decides}
 use Rattle.serde_json.specs.Data.{Data}
 use Rattle.tokei_table_json.specs.Filled.{with_member}
 use Rattle.tokei_table_json.specs.Escaped.{is_escaped_list, are_escaped_pairs}
-use Rattle.tokei_table_json.specs.Layout.{is_list, is_text, is_text_pair, is_truth_value}
+use Rattle.tokei_table_json.specs.Layout.{is_text_pair}
+use Rattle.tokei_json_tree.specs.Shapes.{is_list, is_text, is_truth_value}
 use Rattle.tokei_table_json.specs.MemberEscapes.{keeps_escapes}
 use Rattle.tokei_table_json.specs.MemberLayout.{fits}
 use Rattle.tokei_table_json.specs.Members.{key_of, member_of, fits_member, member_keeps_escapes}

@@ -4,7 +4,8 @@ use Rattle.serde_json.specs.Data.{Data, Members, object}
 use Rattle.serde_json.specs.Find.{get_member}
 use Rattle.tokei_table_json.specs.Escaped.{is_escaped_value, is_escaped_list, are_escaped_pairs, are_escaped_contexts}
 use Rattle.tokei_table_json.specs.Escaped.{has_escaped_tokens, has_escaped_finders, has_escaped_traits, is_escaped_language}
-use Rattle.tokei_table_json.specs.Layout.{absent_or, is_text, is_truth_value, is_list, is_text_pair, is_context}
+use Rattle.tokei_table_json.specs.Layout.{is_text_pair, is_context}
+use Rattle.tokei_json_tree.specs.Shapes.{absent_or, is_text, is_truth_value, is_list}
 use Rattle.tokei_table_json.specs.Layout.{has_comments, has_literals, has_finders, has_traits, is_language, is_html_kind}
 use Rattle.tokei_table_json.specs.MemberEscapes.{keeps_tokens, keeps_finders, keeps_traits, keeps_escapes}
 use Rattle.tokei_table_json.specs.MemberLayout.{all_members, fits_comments, fits_literals, fits_finders, fits_traits, fits}

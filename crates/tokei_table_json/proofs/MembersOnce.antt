@@ -13,7 +13,7 @@ use Rattle.serde_json.specs.Data.{Data, Members, no_members, member}
 use Rattle.serde_json.specs.Find.{get_member}
 use Rattle.tokei_json_tree.specs.Ordered.{AreKeysInOrder, keys_of as keys_in}
 use Rattle.tokei_json_tree.specs.TreeData.{members_data}
-use Rattle.tokei_table_json.specs.Layout.{absent_or}
+use Rattle.tokei_json_tree.specs.Shapes.{absent_or}
 use Rattle.tokei_table_json.specs.MemberLayout.{all_members}
 
 -- the keys of an object's members

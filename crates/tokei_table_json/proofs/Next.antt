@@ -11,7 +11,8 @@ use Rattle.tokei_json_tree.specs.TreeData.{items_data}
 use Rattle.tokei_json_tree.proofs.Orderings.{item_ordered}
 use Rattle.tokei_table_json.specs.Escaped.{is_escaped_value, is_escaped_list, are_escaped_pairs}
 use Rattle.tokei_table_json.specs.Escapes.{is_escaped_text, unescaped_text}
-use Rattle.tokei_table_json.specs.Layout.{all_items, is_list, is_text, is_text_pair, is_truth_value}
+use Rattle.tokei_table_json.specs.Layout.{is_text_pair}
+use Rattle.tokei_json_tree.specs.Shapes.{all_items, is_list, is_text, is_truth_value}
 use Rattle.tokei_table_json.specs.Next.{IsNext}
 use Rattle.tokei_table_json.specs.Rows.{text_of, texts_of, texts_at, pair_in, pairs_in, pairs_at, truth_at}
 use Rattle.tokei_table_row.specs.Row.{Pair}

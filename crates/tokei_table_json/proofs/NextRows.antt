@@ -19,7 +19,8 @@ use Rattle.tokei_json_tree.specs.TreeData.{data_of, members_data}
 use Rattle.tokei_table_json.specs.Escaped.{is_escaped_language, is_escaped_value, is_escaped_list, are_escaped_pairs, are_escaped_languages, is_escaped_table}
 use Rattle.tokei_table_json.specs.Escapes.{unescaped_text}
 use Rattle.tokei_table_json.specs.Filled.{with_member, put_tags, filled}
-use Rattle.tokei_table_json.specs.Layout.{all_items, is_list, is_text, is_text_pair, is_truth_value, is_context, is_language, are_languages, is_object_of_languages, is_html_kind, has_layout, stands_and}
+use Rattle.tokei_table_json.specs.Layout.{is_text_pair, is_context, is_language, are_languages, is_object_of_languages, is_html_kind, has_layout}
+use Rattle.tokei_json_tree.specs.Shapes.{all_items, is_list, is_text, is_truth_value, stands_and}
 use Rattle.tokei_table_json.specs.MemberEscapes.{keeps_escapes}
 use Rattle.tokei_table_json.specs.MemberLayout.{all_members, fits}
 use Rattle.tokei_table_json.specs.Members.{text_list_key, pair_list_key, truth_key, member_of, fits_member, member_keeps_escapes}

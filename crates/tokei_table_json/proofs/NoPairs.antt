@@ -4,7 +4,8 @@ use Rattle.json.specs.Value.{value_view, items_view}
 use Rattle.json.specs.declared.value.Value.{Value}
 use Rattle.tokei_json_tree.specs.TreeData.{data_of, items_data}
 use Rattle.tokei_table_row.specs.Row.{Pair}
-use Rattle.tokei_table_json.specs.Layout.{are_two_texts, is_text}
+use Rattle.tokei_table_json.specs.Layout.{are_two_texts}
+use Rattle.tokei_json_tree.specs.Shapes.{is_text}
 use Rattle.tokei_table_json.specs.Rows.{text_of, two_texts, no_pair}
 
 module _ {A : Type 0} where

@@ -4,7 +4,8 @@ use Rattle.std.specs.Prelude.{Bool, true, ◌&&◌, ◌||◌, not, Option, Some,
 use Rattle.serde_json.specs.Data.{Data, string, array, object, Members, no_members, member}
 use Rattle.serde_json.specs.Find.{get}
 use Rattle.tokei_table_json.specs.Escapes.{is_escaped_text}
-use Rattle.tokei_table_json.specs.Layout.{absent_or, all_items, is_html_kind}
+use Rattle.tokei_table_json.specs.Layout.{is_html_kind}
+use Rattle.tokei_json_tree.specs.Shapes.{absent_or, all_items}
 
 -- A text's backslashes begin escapes.
 abbrev pub is_escaped_value : Data → Bool

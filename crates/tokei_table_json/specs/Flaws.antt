@@ -13,7 +13,8 @@ use Rattle.tokei_table_rules.specs.Fallbacks.{has_key}
 use Rattle.tokei_table_rules.specs.Families.{family_of, needed_keys}
 use Rattle.tokei_table_rules.specs.RowNames.{NamesBoth, is_total}
 use Rattle.tokei_table_rules.specs.Tokens.{HasBadToken}
-use Rattle.tokei_table_json.specs.Outcome.{data_of, outcome_of_value}
+use Rattle.tokei_json_tree.specs.Bytes.{data_of_bytes}
+use Rattle.tokei_table_json.specs.Outcome.{outcome_of_value}
 use Rattle.tokei_table_json.specs.declared.error.TableError.{TableError}
 use Rattle.tokei_table_json.specs.declared.error.TableError.TheVariants.{Token, NamedTwice, NamedTotal, Fallback}
 use Rattle.tokei_table_json.specs.declared.flaw.TableFlaw.{TableFlaw}
@@ -29,7 +30,7 @@ rows_in_data (Some d) = rows_in_value d
 
 -- The rows of a table's bytes.
 abbrev pub rows_in : List ℕ → List Row
-rows_in bytes = rows_in_data (data_of bytes)
+rows_in bytes = rows_in_data (data_of_bytes bytes)
 
 -- The flaw has this cause, language and word, and no other language.
 pub record IsFlaw (why : TableError) (key text : List ℕ) (flaw : TableFlaw) : Type 0 where
@@ -85,4 +86,4 @@ is_flawed_data (Some d) = is_flawed_value d
 
 -- Whether a language keeps the bytes from being a table.
 abbrev pub is_flawed : List ℕ → Bool
-is_flawed bytes = is_flawed_data (data_of bytes)
+is_flawed bytes = is_flawed_data (data_of_bytes bytes)

@@ -1,41 +1,14 @@
 -- The layout of a table: which JSON values stand where.
-use Rattle.std.specs.Prelude.{Bool, true, false, ◌&&◌, ◌||◌, not, Option, Some, None, is_some, bytes_eq, codes}
+use Rattle.std.specs.Prelude.{Bool, true, false, ◌&&◌, ◌||◌, not, Option, Some, None, bytes_eq, codes}
 use Rattle.serde_json.specs.Data.{Data, string, array, object, Items, no_items, item, Members, no_members, member}
-use Rattle.serde_json.specs.Find.{get, as_str, as_bool}
+use Rattle.serde_json.specs.Find.{get}
 use Rattle.serde_json.specs.Written.{has_float}
-
--- A member may be left out; where it stands, its value passes the test.
-abbrev pub absent_or : (Data → Bool) → Option Data → Bool
-absent_or test None = true
-absent_or test (Some d) = test d
-
--- A member has to stand there, and its value passes the test.
-abbrev pub stands_and : (Data → Bool) → Option Data → Bool
-stands_and test None = false
-stands_and test (Some d) = test d
-
--- A text.
-abbrev pub is_text : Data → Bool
-is_text value = is_some (as_str value)
-
--- `true` or `false`.
-abbrev pub is_truth_value : Data → Bool
-is_truth_value value = is_some (as_bool value)
+use Rattle.tokei_json_tree.specs.Shapes.{absent_or, stands_and, is_text, is_truth_value, is_list}
 
 -- An object.
 abbrev pub is_object : Data → Bool
 is_object (object ms) = true
 is_object value = false
-
--- Whether each item passes the test.
-abbrev pub all_items : (Data → Bool) → Items → Bool
-all_items test no_items = true
-all_items test (item d ds) = test d && all_items test ds
-
--- A list whose items pass the test.
-abbrev pub is_list : (Data → Bool) → Data → Bool
-is_list test (array ds) = all_items test ds
-is_list test value = false
 
 -- Exactly two texts.
 abbrev pub are_two_texts : Items → Bool

@@ -2,7 +2,8 @@
 -- key.
 use Rattle.std.specs.Prelude.{ℕ, Bool, true, ◌&&◌, if◌then◌else◌, List, bytes_eq, codes}
 use Rattle.serde_json.specs.Data.{Data, Members, no_members, member}
-use Rattle.tokei_table_json.specs.Layout.{is_text, is_truth_value, is_list, is_text_pair, is_context}
+use Rattle.tokei_table_json.specs.Layout.{is_text_pair, is_context}
+use Rattle.tokei_json_tree.specs.Shapes.{is_text, is_truth_value, is_list}
 
 -- Whether each member passes the test of its key and its value.
 abbrev pub all_members : (List ℕ → Data → Bool) → Members → Bool

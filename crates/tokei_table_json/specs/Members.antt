@@ -3,7 +3,8 @@ use Rattle.std.specs.Prelude.{ℕ, Bool, true, ◌||◌, not, if◌then◌else�
 use Rattle.serde_json.specs.Data.{Data}
 use Rattle.tokei_table_json.specs.Escaped.{is_escaped_value, is_escaped_list, are_escaped_pairs}
 use Rattle.tokei_table_json.specs.Escaped.{are_escaped_contexts}
-use Rattle.tokei_table_json.specs.Layout.{is_text, is_truth_value, is_list, is_text_pair}
+use Rattle.tokei_table_json.specs.Layout.{is_text_pair}
+use Rattle.tokei_json_tree.specs.Shapes.{is_text, is_truth_value, is_list}
 use Rattle.tokei_table_json.specs.Layout.{is_context}
 use Rattle.tokei_table_json.specs.declared.members.TextList.{TextList}
 use Rattle.tokei_table_json.specs.declared.members.TextList.TheVariants.{Extensions, LineComment}

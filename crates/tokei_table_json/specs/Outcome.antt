@@ -1,10 +1,9 @@
 -- What becomes of a table's bytes: its rows, or the first cause for which it is refused.
 use Rattle.std.specs.Prelude.{ℕ, not, List, Option, Some, None, Result, Ok, Err, codes, if◌then◌else◌}
 use Rattle.std.specs.List.{list_all, list_any}
-use Rattle.std.specs.Str.{is_utf8}
 use Rattle.serde_json.specs.Data.{Data}
 use Rattle.serde_json.specs.Find.{get}
-use Rattle.serde_json.specs.Read.{read}
+use Rattle.tokei_json_tree.specs.Bytes.{data_of_bytes}
 use Rattle.tokei_table_json.specs.Escaped.{is_escaped_table}
 use Rattle.tokei_table_json.specs.Layout.{has_layout}
 use Rattle.tokei_table_row.specs.Row.{Row}
@@ -15,10 +14,6 @@ use Rattle.tokei_table_rules.specs.Tokens.{has_tokens}
 use Rattle.tokei_table_json.specs.declared.error.TableError.{TableError}
 use Rattle.tokei_table_json.specs.declared.error.TableError.TheVariants.{NotJson, Layout, Escape, Token, NamedTwice}
 use Rattle.tokei_table_json.specs.declared.error.TableError.TheVariants.{NamedTotal, Fallback}
-
--- The JSON value of the bytes, which are UTF-8.
-unfoldable pub data_of : List ℕ → Option Data
-data_of bytes = if is_utf8 bytes then read bytes else None
 
 -- The rows, unless a token, a name or a missing language forbids.
 unfoldable pub tested : List Row → Result (List Row) TableError
@@ -43,4 +38,4 @@ outcome_of (Some d) = outcome_of_value d
 
 -- Out of memory aside, this is what reading a table answers.
 abbrev pub outcome : List ℕ → Result (List Row) TableError
-outcome bytes = outcome_of (data_of bytes)
+outcome bytes = outcome_of (data_of_bytes bytes)

@@ -4,7 +4,7 @@ ghost use Rattle.json.specs.Value.{value_view, items_view, members_view};
 ghost use Rattle.serde_json.specs.Find.{get};
 ghost use Rattle.tokei_json_tree.specs.Ordered.{IsOrdered, AreItemsOrdered, AreMembersOrdered};
 ghost use Rattle.tokei_json_tree.specs.TreeData.{data_of, items_data, members_data};
-ghost use Rattle.tokei_table_json.specs.Layout.{absent_or, all_items};
+ghost use Rattle.tokei_json_tree.specs.Shapes.{absent_or, all_items};
 ghost use Rattle.tokei_table_json.specs.Escaped.{is_escaped_value, is_escaped_list};
 ghost use Rattle.tokei_table_json.specs.Escaped.{are_escaped_pairs, is_escaped_context};
 ghost use Rattle.tokei_table_json.specs.Escaped.{are_escaped_contexts, is_escaped_language, are_escaped_languages};

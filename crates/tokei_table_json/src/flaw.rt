@@ -6,7 +6,7 @@ ghost use Rattle.json.specs.Value.{value_view};
 ghost use Rattle.serde_json.specs.Read.{read as read_text};
 ghost use Rattle.serde_json.specs.Written.{has_float};
 ghost use Rattle.tokei_json_tree.specs.Ordered.{IsOrdered};
-ghost use Rattle.tokei_json_tree.specs.TreeData.{data_of as tree_data};
+ghost use Rattle.tokei_json_tree.specs.TreeData.{data_of};
 ghost use Rattle.tokei_table_json.specs.Flaws.{IsFlaw, Tells, TellsToken, TellsName, TellsTotal, TellsFallback};
 ghost use Rattle.tokei_table_json.specs.Flaws.{rows_in, rows_in_data, rows_in_value};
 ghost use Rattle.tokei_table_json.specs.Flaws.{is_flawed_value, is_flawed_data, is_flawed};
@@ -228,12 +228,12 @@ fn row_flaw(alloc: Global, rows: &[Syntax]) -> Result<Option<TableFlaw>, AllocEr
 #[tactic(auto, unfolding(crate::specs::Outcome::outcome_of_value, crate::specs::Layout::has_layout))]
 fn reading_flaw(alloc: Global, read: &Reading<'_>) -> Result<Option<TableFlaw>, AllocError>
     requires ordered { IsOrdered (value_view read.now.tree) }
-    requires fraction { read.now.has_fraction ≡ has_float (tree_data (value_view read.now.tree)) }
+    requires fraction { read.now.has_fraction ≡ has_float (data_of (value_view read.now.tree)) }
     ensures found { IfOk result
-        (λ o. is_some o ≡ is_flawed_value (tree_data (value_view read.now.tree))) }
+        (λ o. is_some o ≡ is_flawed_value (data_of (value_view read.now.tree))) }
     ensures tells { IfOk result (λ o. IfSome o
-        (Tells (outcome_of_value (tree_data (value_view read.now.tree)))
-        (rows_in_value (tree_data (value_view read.now.tree))))) }
+        (Tells (outcome_of_value (data_of (value_view read.now.tree)))
+        (rows_in_value (data_of (value_view read.now.tree))))) }
 {
     if read.has_fraction || !has_layout(&read.tree) {
         return misfit(alloc, TableError::Layout, unfit_language(&read.tree));

@@ -5,10 +5,11 @@ ghost use Rattle.json.specs.Value.{value_view};
 ghost use Rattle.serde_json.specs.Read.{read as read_text};
 ghost use Rattle.serde_json.specs.Written.{has_float};
 ghost use Rattle.tokei_json_tree.specs.Ordered.{IsOrdered};
-ghost use Rattle.tokei_json_tree.specs.TreeData.{data_of as tree_data};
+ghost use Rattle.tokei_json_tree.specs.TreeData.{data_of};
 ghost use Rattle.tokei_table.specs.KeyOrder.{IsInKeyOrder};
 ghost use Rattle.tokei_table.specs.WellFormed.{IsWellFormed};
-ghost use Rattle.tokei_table_json.specs.Outcome.{data_of, outcome, outcome_of, outcome_of_value, tested};
+ghost use Rattle.tokei_json_tree.specs.Bytes.{data_of_bytes};
+ghost use Rattle.tokei_table_json.specs.Outcome.{outcome, outcome_of, outcome_of_value, tested};
 ghost use Rattle.tokei_table_json.specs.declared.error.TableError.TheVariants.{NotJson as NotJsonFault};
 ghost use Rattle.tokei_table_json.specs.declared.error.TableError.TheVariants.{Memory as MemoryFault};
 ghost use Rattle.tokei_table_row.specs.RowOf.{row_of};
@@ -27,8 +28,8 @@ use tokei_table_rules::well_formed::{all_have_fallbacks, all_have_tokens, names_
 
 /// The text of a table's bytes.
 pub(crate) fn text_of(bytes: &[u8]) -> Result<&str, TableError>
-    ensures { MatchResult result (λ s. data_of bytes.now ≡ read_text s.now)
-        (λ e. (e ≡ NotJsonFault) × (data_of bytes.now ≡ None)) }
+    ensures { MatchResult result (λ s. data_of_bytes bytes.now ≡ read_text s.now)
+        (λ e. (e ≡ NotJsonFault) × (data_of_bytes bytes.now ≡ None)) }
 {
     match std::str::from_utf8(bytes) {
         Ok(text) => Ok(text),
@@ -40,10 +41,10 @@ pub(crate) fn text_of(bytes: &[u8]) -> Result<&str, TableError>
 #[tactic(auto, unfolding(crate::specs::Outcome::outcome_of_value, crate::specs::Layout::has_layout))]
 fn rows_in(alloc: Global, read: &Reading<'_>) -> Result<Vec<Syntax>, TableError>
     requires ordered { IsOrdered (value_view read.now.tree) }
-    requires fraction { read.now.has_fraction ≡ has_float (tree_data (value_view read.now.tree)) }
+    requires fraction { read.now.has_fraction ≡ has_float (data_of (value_view read.now.tree)) }
     ensures value { result ≢ Err MemoryFault → MatchResult result
-        (λ v. outcome_of_value (tree_data (value_view read.now.tree)) ≡ tested (map row_of v.items))
-        (λ e. outcome_of_value (tree_data (value_view read.now.tree)) ≡ Err e) }
+        (λ v. outcome_of_value (data_of (value_view read.now.tree)) ≡ tested (map row_of v.items))
+        (λ e. outcome_of_value (data_of (value_view read.now.tree)) ≡ Err e) }
     ensures ordered { IfOk result (λ v. IsInKeyOrder (map row_of v.items)) }
 {
     if read.has_fraction || !has_layout(&read.tree) {

@@ -6,7 +6,8 @@ ghost use Rattle.json.specs.Token.{Token as SpecToken};
 ghost use Rattle.tokei_table_row.specs.RowOf.{pair_of, pairs_of, tokens_of};
 ghost use Rattle.tokei_table_json.specs.Escaped.{is_escaped_value, is_escaped_list, are_escaped_pairs};
 ghost use Rattle.tokei_table_json.specs.Escapes.{is_escaped_text, unescaped_text};
-ghost use Rattle.tokei_table_json.specs.Layout.{is_list, is_text, is_text_pair, is_truth_value};
+ghost use Rattle.tokei_table_json.specs.Layout.{is_text_pair};
+ghost use Rattle.tokei_json_tree.specs.Shapes.{is_list, is_text, is_truth_value};
 ghost use Rattle.tokei_table_json.specs.Next.{IsNext};
 ghost use Rattle.tokei_table_json.specs.Rows.{text_of, pair_in, texts_at, pairs_at, truth_at};
 

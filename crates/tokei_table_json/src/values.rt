@@ -2,7 +2,7 @@
 ghost use Rattle.std.specs.Prelude.{◌≡◌};
 ghost use Rattle.json.specs.Value.{value_view, items_view};
 ghost use Rattle.tokei_json_tree.specs.TreeData.{data_of, items_data};
-ghost use Rattle.tokei_table_json.specs.Layout.{is_text, is_truth_value, all_items};
+ghost use Rattle.tokei_json_tree.specs.Shapes.{is_text, is_truth_value, all_items};
 
 use json::Value;
 use tokei_json_tree::{Tree, TreeItems};

@@ -3,7 +3,7 @@ use Rattle.std.specs.Prelude.{IfSome}
 use Rattle.json.specs.Value.{members_view, value_view}
 use Rattle.tokei_json_tree.specs.Ordered.{IsOrdered}
 use Rattle.tokei_json_tree.specs.TreeData.{data_of, members_data}
-use Rattle.tokei_table_json.specs.Layout.{absent_or}
+use Rattle.tokei_json_tree.specs.Shapes.{absent_or}
 use Rattle.tokei_json.specs.LanguageMaps.{children_pass, lists_pass, passes, reports_pass}
 use Rattle.tokei_json_tree.proofs.Left.{failed, from, none_left, object_seen, passed}
 use Rattle.tokei_json.proofs.language_maps.children_pass.Goals as goal

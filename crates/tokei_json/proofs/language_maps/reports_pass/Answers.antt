@@ -3,7 +3,7 @@ use Rattle.std.specs.Prelude.{IfSome}
 use Rattle.json.specs.Value.{value_view}
 use Rattle.tokei_json_tree.specs.Ordered.{IsOrdered}
 use Rattle.tokei_json_tree.specs.TreeData.{data_of}
-use Rattle.tokei_table_json.specs.Layout.{absent_or}
+use Rattle.tokei_json_tree.specs.Shapes.{absent_or}
 use Rattle.tokei_json.specs.LanguageMaps.{passes, report_passes, reports_pass}
 use Rattle.tokei_json_tree.proofs.Left.{array_seen, failed, from, none_left, passed}
 use Rattle.tokei_json.proofs.language_maps.reports_pass.Goals as goal

@@ -3,7 +3,7 @@ use Rattle.json.specs.Value.{value_view}
 use Rattle.std.specs.Prelude.{IfSome}
 use Rattle.tokei_json_tree.specs.Ordered.{IsOrdered}
 use Rattle.tokei_json_tree.specs.TreeData.{data_of}
-use Rattle.tokei_table_json.specs.Layout.{stands_and}
+use Rattle.tokei_json_tree.specs.Shapes.{stands_and}
 use Rattle.tokei_json.specs.Layout.{are_reports, is_report}
 use Rattle.tokei_json_tree.proofs.Left.{array_seen, failed, from, none_left, passed}
 use Rattle.tokei_json.proofs.layout.reports_stand.Goals as goal

@@ -1,7 +1,7 @@
 use Rattle.json.specs.Value.{items_view}
 use Rattle.tokei_json_tree.specs.Ordered.{AreItemsOrdered}
 use Rattle.tokei_json_tree.specs.TreeData.{items_data}
-use Rattle.tokei_table_json.specs.Layout.{all_items}
+use Rattle.tokei_json_tree.specs.Shapes.{all_items}
 use Rattle.tokei_json.specs.Layout.{is_report}
 use Rattle.tokei_json_tree.proofs.Left.{AskedLeft}
 use Rattle.tokei_json.proofs.layout.reports_stand.Given as goal

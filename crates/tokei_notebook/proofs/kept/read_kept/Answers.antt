@@ -13,4 +13,4 @@ returns c =
     let whole_read : value 127 (tokens text) ≡ Some (h.whole, []) =
     ap (value 127) (sym c.in_ok-reader.ensures.ok) ∙ h.reads ∙ ap (λ ts. Some (h.whole, ts)) empty in
     let reads : read text ≡ of_json h.whole = ap (λ o. option_and_then of_json (option_and_then (λ p. if_last p.0 p.1) o)) whole_read in
-    (h.whole, in_range h.whole (read text) reads h.in_range, h.made)
+    (h.whole, in_range h.whole (read text) reads h.passes, h.made)

@@ -1,7 +1,7 @@
 use Rattle.std.proofs.Common.{◌≡◌, drop}
 use Rattle.json.specs.Value.{items_view}
 use Rattle.tokei_json_tree.specs.Unordered.{unordered_items}
-use Rattle.tokei_table_json.specs.Layout.{all_items, is_text}
+use Rattle.tokei_json_tree.specs.Shapes.{all_items, is_text}
 use Rattle.tokei_notebook.proofs.layout.all_texts.Given as goal
 
 abbrev pub invariant-loop-item : goal.invariant-loop-item

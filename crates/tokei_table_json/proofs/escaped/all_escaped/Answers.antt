@@ -2,7 +2,7 @@ use Rattle.std.proofs.Common.{sym, ap, ◌∙◌}
 use Rattle.json.specs.Value.{items_view}
 use Rattle.tokei_json_tree.specs.TreeData.{items_data}
 use Rattle.tokei_table_json.specs.Escaped.{is_escaped_value}
-use Rattle.tokei_table_json.specs.Layout.{all_items}
+use Rattle.tokei_json_tree.specs.Shapes.{all_items}
 use Rattle.tokei_table_json.proofs.Left.{item_passes, item_fails, items_pass}
 use Rattle.tokei_table_json.proofs.escaped.all_escaped.Goals as goal
 

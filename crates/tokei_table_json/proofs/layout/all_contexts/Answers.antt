@@ -1,7 +1,8 @@
 use Rattle.std.proofs.Common.{sym, ap, ◌∙◌}
 use Rattle.json.specs.Value.{items_view}
 use Rattle.tokei_json_tree.specs.TreeData.{items_data}
-use Rattle.tokei_table_json.specs.Layout.{all_items, is_context}
+use Rattle.tokei_table_json.specs.Layout.{is_context}
+use Rattle.tokei_json_tree.specs.Shapes.{all_items}
 use Rattle.tokei_table_json.proofs.Left.{item_ordered, items_ordered, item_passes, item_fails, items_pass}
 use Rattle.tokei_table_json.proofs.layout.all_contexts.Goals as goal
 

@@ -1,7 +1,8 @@
 use Rattle.std.proofs.Common.{◌∙◌, sym, ap, ◌&&◌}
 use Rattle.json.specs.Value.{items_view, value_view}
 use Rattle.tokei_json_tree.specs.TreeData.{items_data, data_of}
-use Rattle.tokei_table_json.specs.Layout.{are_two_texts, is_text}
+use Rattle.tokei_table_json.specs.Layout.{are_two_texts}
+use Rattle.tokei_json_tree.specs.Shapes.{is_text}
 use Rattle.tokei_table_json.proofs.NoPairs.{too_few, too_many, both_texts}
 use Rattle.tokei_table_json.proofs.layout.are_two_texts.Goals as goal
 

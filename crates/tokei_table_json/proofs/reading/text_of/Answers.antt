@@ -1,6 +1,6 @@
 use Rattle.std.proofs.Common.{sym, ap, refl}
 use Rattle.serde_json.specs.Read.{read}
-use Rattle.tokei_table_json.proofs.Utf8.{data_read, data_none}
+use Rattle.tokei_json_tree.proofs.Utf8.{data_read, data_none}
 use Rattle.tokei_table_json.proofs.reading.text_of.Goals as goal
 
 pub returns-in-Ok : goal.returns-in-Ok

@@ -1,7 +1,7 @@
 use Rattle.std.proofs.Common.{◌-◌, ◌≡◌, ℕ, Some, IfSome, string_bytes, subst, rules, arith}
 use Rattle.json.specs.Json.{after_end_array}
 use Rattle.tokei_table_json.specs.Escaped.{is_escaped_value}
-use Rattle.tokei_table_json.specs.Layout.{is_text}
+use Rattle.tokei_json_tree.specs.Shapes.{is_text}
 use Rattle.tokei_table_json.specs.Next.{IsNext}
 use Rattle.tokei_table_json.specs.Rows.{text_of}
 use Rattle.tokei_table_json.proofs.Next.{pair_next}

@@ -2,7 +2,8 @@ use Rattle.std.proofs.Common.{◌-◌, ◌<◌, ◌≡◌, ℕ, Some, IfSome, le
 use Rattle.json.specs.Json.{after_end_array}
 use Rattle.tokei_table_row.specs.RowOf.{pair_of, pairs_of}
 use Rattle.tokei_table_json.specs.Escaped.{is_escaped_list, are_escaped_pairs}
-use Rattle.tokei_table_json.specs.Layout.{is_list, is_text_pair}
+use Rattle.tokei_table_json.specs.Layout.{is_text_pair}
+use Rattle.tokei_json_tree.specs.Shapes.{is_list}
 use Rattle.tokei_table_json.specs.Next.{IsNext}
 use Rattle.tokei_table_json.specs.Rows.{pair_in, pairs_at}
 use Rattle.tokei_table_json.proofs.Made.{made_longer}

@@ -2,7 +2,7 @@ use Rattle.std.proofs.Common.{◌-◌, ◌<◌, ◌≡◌, ℕ, Some, IfSome, st
 use Rattle.json.specs.Json.{after_end_array}
 use Rattle.tokei_table_row.specs.RowOf.{tokens_of}
 use Rattle.tokei_table_json.specs.Escaped.{is_escaped_value, is_escaped_list}
-use Rattle.tokei_table_json.specs.Layout.{is_list, is_text}
+use Rattle.tokei_json_tree.specs.Shapes.{is_list, is_text}
 use Rattle.tokei_table_json.specs.Next.{IsNext}
 use Rattle.tokei_table_json.specs.Rows.{text_of, texts_at}
 use Rattle.tokei_table_json.proofs.Made.{made_longer}

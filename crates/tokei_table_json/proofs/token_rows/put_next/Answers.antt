@@ -1,7 +1,8 @@
 use Rattle.std.proofs.Common.{ℕ, ◌<◌, true, Some, IfSome, string_bytes, sym, ◌∙◌, subst, arith}
 use Rattle.tokei_table_row.specs.RowOf.{row_of, tokens_of, pairs_of}
 use Rattle.tokei_table_json.specs.Escaped.{is_escaped_value, is_escaped_list, are_escaped_pairs}
-use Rattle.tokei_table_json.specs.Layout.{is_list, is_text, is_text_pair, is_truth_value}
+use Rattle.tokei_table_json.specs.Layout.{is_text_pair}
+use Rattle.tokei_json_tree.specs.Shapes.{is_list, is_text, is_truth_value}
 use Rattle.tokei_table_json.specs.Next.{IsNext}
 use Rattle.tokei_table_json.specs.Rows.{text_of, texts_at, pairs_at, truth_at}
 use Rattle.tokei_table_json.proofs.Refused.{not_done}

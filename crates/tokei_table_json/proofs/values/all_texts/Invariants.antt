@@ -1,4 +1,4 @@
-use Rattle.tokei_table_json.specs.Layout.{is_text}
+use Rattle.tokei_json_tree.specs.Shapes.{is_text}
 use Rattle.tokei_table_json.proofs.Left.{ItemsLeft}
 use Rattle.tokei_table_json.proofs.values.all_texts.Given as goal
 
