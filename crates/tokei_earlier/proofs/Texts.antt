@@ -15,7 +15,7 @@ pub empty_refused : (rows : List Row) (text : List ℕ) → length text < 1 → 
 empty_refused rows [] none = refl
 empty_refused rows (c ∷ cs) none = absurd (omega arith)
 
-by_reading : (rows : List Row) (text : List ℕ) → 1 ≤ length text → outcome_of_text rows text ≡ outcome_of_reading rows (read text)
+pub by_reading : (rows : List Row) (text : List ℕ) → 1 ≤ length text → outcome_of_text rows text ≡ outcome_of_reading rows (read text)
 by_reading rows [] some = absurd (omega arith)
 by_reading rows (c ∷ cs) some = refl
 

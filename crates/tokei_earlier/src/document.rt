@@ -1,5 +1,5 @@
 //! The languages of a document, as a value, a text or bytes.
-ghost use Rattle.std.specs.Prelude.{◌≡◌, ◌≢◌, IfErr, IfOk, None, Ok, Err, false};
+ghost use Rattle.std.specs.Prelude.{◌≡◌, ◌≢◌, ◌≤◌, length, IfErr, IfOk, IfSome, None, Ok, Err, false};
 ghost use Rattle.json.specs.Value.{value_view};
 ghost use Rattle.serde_json.specs.Read.{read as read_data};
 ghost use Rattle.serde_json.specs.View.{view};
@@ -17,9 +17,10 @@ use serde_json::Value;
 use std::alloc::Global;
 use tokei_json::{NamedTable, all_known, all_once, has_layout};
 use tokei_json_tree::converted::converted;
-use tokei_json_tree::{ReadError, Reading, Room, Tree, has_float, read};
+use tokei_json_tree::{Missed, ReadError, Reading, Room, Tree, has_float, read, read_without};
 use tokei_languages::Languages;
 use tokei_table::LanguageTable;
+use tokei_table::table_laws::tables_are_well_formed;
 
 /// The languages of a tree without other numbers than whole ones of 64 bits, refused as a value is.
 #[tactic(auto, unfolding(crate::specs::Outcome::outcome_of_value))]
@@ -76,6 +77,31 @@ pub fn from_value(
     from_tree(alloc, table, &tree)
 }
 
+/// The languages of a text that isn't empty, read without its total, of which nothing is asked but
+/// that it stands there. None where the text isn't read so.
+fn from_text_without_total(
+    alloc: Global,
+    table: &LanguageTable,
+    text: &str,
+) -> Option<Result<Languages, InputError>>
+    requires { 1 ≤ length text.now }
+    ensures languages { IfSome result (λ r. IfOk r (λ ls. outcome_of_text table.now text.now
+        ≡ Ok (languages_of ls))) }
+    ensures refused { IfSome result (λ r. IfErr r (λ e. e ≢ InputError.Memory
+        → outcome_of_text table.now text.now ≡ Err e)) }
+    ensures not_unreadable { IfSome result (λ r. r ≢ Err InputError.Unreadable) }
+    ensures not_too_long { IfSome result (λ r. r ≢ Err InputError.TooLong) }
+    ensures not_overflow { IfSome result (λ r. r ≢ Err InputError.Overflow) }
+{
+    tables_are_well_formed(table);
+    let mut room = Room::new(alloc);
+    match read_without(&mut room, text, "Total") {
+        Ok(tree) => Some(from_tree(alloc, table, &tree)),
+        Err(Missed::Memory) => Some(Err(InputError::Memory)),
+        Err(Missed::Unusual) => None,
+    }
+}
+
 /// Reads a text as a tree. One that has no reading is `NotJson`.
 fn read_tree<'t>(
     alloc: Global,
@@ -95,10 +121,33 @@ fn read_tree<'t>(
     }
 }
 
+/// The languages of a text that isn't empty.
+#[tactic(auto, unfolding(crate::specs::Outcome::outcome_of_value, tokei_json::specs::Layout::has_layout))]
+fn from_whole_text(
+    alloc: Global,
+    table: &LanguageTable,
+    text: &str,
+) -> Result<Languages, InputError>
+    requires { 1 ≤ length text.now }
+    ensures languages { IfOk result (λ ls. outcome_of_text table.now text.now
+        ≡ Ok (languages_of ls)) }
+    ensures refused { IfErr result (λ e. e ≢ InputError.Memory
+        → outcome_of_text table.now text.now ≡ Err e) }
+    ensures not_unreadable { result ≢ Err InputError.Unreadable }
+    ensures not_too_long { result ≢ Err InputError.TooLong }
+    ensures not_overflow { result ≢ Err InputError.Overflow }
+{
+    let mut room = Room::new(alloc);
+    let reading = read_tree(alloc, &mut room, text)?;
+    if reading.has_fraction {
+        return Err(InputError::Layout);
+    }
+    from_tree(alloc, table, &reading.tree)
+}
+
 /// The languages of a text. Refused is exactly what has a cause of `InputError` from `Empty` to
 /// `NamedTwice`, and of those that apply the first is answered; `Memory` comes only where an
 /// allocation failed.
-#[tactic(auto, unfolding(crate::specs::Outcome::outcome_of_value, tokei_json::specs::Layout::has_layout))]
 pub fn from_text(alloc: Global, table: &LanguageTable, text: &str) -> Result<Languages, InputError>
     ensures languages { IfOk result (λ ls. outcome_of_text table.now text.now
         ≡ Ok (languages_of ls)) }
@@ -110,14 +159,10 @@ pub fn from_text(alloc: Global, table: &LanguageTable, text: &str) -> Result<Lan
 {
     match text.as_bytes() {
         [] => Err(InputError::Empty),
-        _ => {
-            let mut room = Room::new(alloc);
-            let reading = read_tree(alloc, &mut room, text)?;
-            if reading.has_fraction {
-                return Err(InputError::Layout);
-            }
-            from_tree(alloc, table, &reading.tree)
-        }
+        _ => match from_text_without_total(alloc, table, text) {
+            Some(outcome) => outcome,
+            None => from_whole_text(alloc, table, text),
+        },
     }
 }
 
