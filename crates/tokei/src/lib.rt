@@ -25,7 +25,7 @@ pub use tokei_count::{
     Counter, FileContext, LanguageContext, count_plain, count_plain_counted, parse_counted,
     parse_from_slice, parse_from_str,
 };
-pub use tokei_earlier::{Format, FormatError, InputError, add_input, from_value};
+pub use tokei_earlier::{Format, FormatError, InputError, add_bytes, add_input, from_value};
 pub use tokei_embedding::{
     Capture, HtmlLike, SimpleCapture, end_lf, end_markdown, end_script, end_style, end_template,
     start_lf, start_markdown, start_script, start_style, start_template,

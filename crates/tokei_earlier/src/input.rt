@@ -1,4 +1,4 @@
-//! Earlier results, read from a source and added to languages.
+//! Earlier results, as bytes or read from a source, and added to languages.
 ghost use Rattle.std.specs.Prelude.{◌≡◌, ◌≢◌, ◌<◌, ◌≤◌, length, IfErr, IfOk, IfSome, IsErrOf, OnErr, OnOk, Err};
 ghost use Rattle.std.specs.Io.KnownBytes.{IsAtEnd};
 ghost use Rattle.tokei_earlier.specs.Adding.{IsAdded, PassesUsize};
@@ -49,8 +49,8 @@ fn read_all<S: Source>(alloc: Global, source: &mut S) -> Result<Vec<u8>, InputEr
     Err(InputError::Unreadable)
 }
 
-/// Adds the languages of the bytes. A refusal changes nothing.
-fn add_bytes(
+/// Adds the languages of the bytes, however many they are. A refusal changes nothing.
+fn add_all(
     alloc: Global,
     table: &LanguageTable,
     bytes: &[u8],
@@ -114,5 +114,32 @@ pub fn add_input<S: Source>(
     ensures err { OnErr result (languages_of languages.new ≡ languages_of languages.old) }
 {
     let bytes = read_all(alloc, reader)?;
-    add_bytes(alloc, table, &bytes, languages)
+    add_all(alloc, table, &bytes, languages)
+}
+
+/// Adds the languages of bytes that are earlier results. Refused as `Format::parse` refuses a text,
+/// bytes that aren't UTF-8 as `NotJson`; `TooLong` where there are more than 4,294,967,296 of them;
+/// `Overflow` only where a sum of two counts passes the greatest `usize`; `Memory` where an
+/// allocation failed. A refusal leaves the languages as they were.
+pub fn add_bytes(
+    alloc: Global,
+    table: &LanguageTable,
+    bytes: &[u8],
+    languages: &mut Languages,
+) -> Result<(), InputError>
+    ensures added { OnOk result
+        (IsAdded table.now (languages_of languages.old) (languages_of languages.new) bytes.now) }
+    ensures overflow { IsErrOf result InputError.Overflow
+        → PassesUsize table.now (languages_of languages.old) bytes.now }
+    ensures refused { IfErr result (λ e. e ≢ InputError.Memory → e ≢ InputError.Overflow
+        → e ≢ InputError.TooLong → outcome_of_bytes table.now bytes.now ≡ Err e) }
+    ensures unreadable { result ≢ Err InputError.Unreadable }
+    ensures bound { OnOk result (length bytes.now ≤ most_bytes) }
+    ensures too_long { result ≡ Err InputError.TooLong → most_bytes < length bytes.now }
+    ensures err { OnErr result (languages_of languages.new ≡ languages_of languages.old) }
+{
+    if bytes.len() > MAX_BYTES {
+        return Err(InputError::TooLong);
+    }
+    add_all(alloc, table, bytes, languages)
 }

@@ -12,4 +12,4 @@ mod reading;
 pub use document::{from_text, from_value};
 pub use error::InputError;
 pub use format::{Format, FormatError};
-pub use input::add_input;
+pub use input::{add_bytes, add_input};

@@ -1,4 +1,5 @@
 pub mod Causes
+pub mod FirstMissing
 pub mod Messages
 pub mod Showing
 pub mod Taken

@@ -1,9 +1,17 @@
 -- How an ending says why a call of the program failed.
-use Rattle.std.specs.Prelude.{◌≡◌, Bool, true, false, ⊤, List, Option, None, Some, Result, Err}
+use Rattle.std.specs.Prelude.{◌≡◌, ◌<◌, ℕ, Bool, true, false, ⊤, List, [], ◌∷◌, ◌++◌, length, Option, None, Some, IfSome, Result, Err, string_bytes}
 use Rattle.tokei_invocation.specs.declared.ending.Ending.{Ending}
-use Rattle.tokei_invocation.specs.declared.ending.Ending.TheVariants.{NoTable, Table, TableFlaw, Unreadable, UnreadableBy, Memory, NoRoom, Overflow, Write, Unwritten}
+use Rattle.tokei_invocation.specs.declared.ending.Ending.TheVariants.{NoTable, Table, TableFlaw, Input, Unreadable, UnreadableBy, TooLong, Missing, Memory, NoRoom, Overflow, Write, Unwritten}
+use Rattle.tokei_earlier.specs.Adding.{PassesUsize}
+use Rattle.tokei_earlier.specs.Bounds.{most_bytes}
+use Rattle.tokei_earlier.specs.Outcome.{outcome_of_bytes}
+use Rattle.tokei_earlier.specs.declared.error.InputError.{InputError}
+use Rattle.tokei_folders.specs.Tree.{Tree}
+use Rattle.tokei_invocation.specs.Earlier.{bytes_named}
+use Rattle.tokei_invocation.specs.Roots.{AllStand, stands}
 use Rattle.tokei_io.specs.declared.error.OutputError.{OutputError}
 use Rattle.tokei_io.specs.declared.error.OutputError.TheVariants.{Memory as OutOfMemory, Overflow as Overflowing, Write as Unwritable}
+use Rattle.tokei_stats.specs.Shown.{shown}
 use Rattle.tokei_table.specs.Row.{Row}
 use Rattle.tokei_table_json.specs.declared.error.TableError.{TableError}
 
@@ -53,3 +61,53 @@ IsEndingAt None (NoTable text) = ⊤
 IsEndingAt (Some (Err error)) (Table cause) = cause ≡ error
 IsEndingAt (Some (Err error)) (TableFlaw cause) = ⊤
 IsEndingAt found ending = ⊥
+
+-- Bytes that are refused as earlier results.
+pub record AreRefused (rows : List Row) (bytes : List ℕ) : Type 0 where
+  pub cause : InputError
+  pub refused : outcome_of_bytes rows bytes ≡ Err cause
+
+-- The ending says why no earlier results were taken from bytes, where these are known: that they
+-- are refused, that a sum passes the greatest `usize`, or that they are too many. A source may have
+-- a fault, and memory may run out.
+abbrev pub IsEndingOfInput : List Row → Option (List ℕ) → Ending → Type 0
+IsEndingOfInput rows bytes (Input name) = IfSome bytes (AreRefused rows)
+IsEndingOfInput rows bytes Overflow = IfSome bytes (PassesUsize rows [])
+IsEndingOfInput rows bytes TooLong = IfSome bytes (λ text. most_bytes < length text)
+IsEndingOfInput rows bytes Unreadable = ⊤
+IsEndingOfInput rows bytes (UnreadableBy cause) = ⊤
+IsEndingOfInput rows bytes Memory = ⊤
+IsEndingOfInput rows bytes (NoRoom place) = ⊤
+IsEndingOfInput rows bytes ending = ⊥
+
+-- The ending says why the earlier results of a name weren't taken, where the command line has one.
+abbrev pub IsEndingOfEarlier : List Row → Tree → Option (List ℕ) → Option (List ℕ) → Ending → Type 0
+IsEndingOfEarlier rows tree input None ending = ⊥
+IsEndingOfEarlier rows tree input (Some name) ending =
+    IsEndingOfInput rows (bytes_named tree input name) ending
+
+-- Nothing stands at the root, which a text names.
+pub record IsMissing (tree : Tree) (root text : List ℕ) : Type 0 where
+  pub missing : stands tree root ≡ false
+  pub named : text ≡ shown root
+
+-- The ending says that nothing stands at the root. Memory may run out.
+abbrev pub IsEndingOfRoot : Tree → List ℕ → Ending → Type 0
+IsEndingOfRoot tree root (Missing text) = IsMissing tree root (string_bytes text)
+IsEndingOfRoot tree root Memory = ⊤
+IsEndingOfRoot tree root ending = ⊥
+
+-- Of the roots there is a first one at which nothing stands, which a text names.
+pub record IsFirstMissing (tree : Tree) (roots : List (List ℕ)) (text : List ℕ) : Type 0 where
+  pub before : List (List ℕ)
+  pub root : List ℕ
+  pub behind : List (List ℕ)
+  pub are : roots ≡ before ++ root ∷ behind
+  pub stand : AllStand tree before
+  pub first : IsMissing tree root text
+
+-- The ending names the first of the roots at which nothing stands. Memory may run out.
+abbrev pub IsEndingOfRoots : Tree → List (List ℕ) → Ending → Type 0
+IsEndingOfRoots tree roots (Missing text) = IsFirstMissing tree roots (string_bytes text)
+IsEndingOfRoots tree roots Memory = ⊤
+IsEndingOfRoots tree roots ending = ⊥

@@ -6,7 +6,8 @@ ghost use Rattle.tokei_folders.specs.Answers.{Told};
 ghost use Rattle.tokei_folders.specs.AsTheyWere.{SameTree};
 ghost use Rattle.tokei_invocation.specs.Configs.{AreFlaws, IsConfig};
 ghost use Rattle.tokei_invocation.specs.Earlier.{AreEarlier, AreRead, bytes_named};
-ghost use Rattle.tokei_invocation.specs.Endings.{IsEndingAt};
+ghost use Rattle.tokei_invocation.specs.Endings.{IsEndingAt, IsEndingOfEarlier, IsEndingOfInput, IsEndingOfRoot};
+ghost use Rattle.tokei_invocation.specs.Endings.{IsEndingOfRoots};
 ghost use Rattle.tokei_invocation.specs.Roots.{AllStand, stands};
 ghost use Rattle.tokei_invocation.specs.Statuses.{status_of};
 ghost use Rattle.tokei_invocation.specs.Tables.{place_of_table, table_at};
@@ -18,9 +19,9 @@ use crate::reasons::{no_memory, refused_table, unreadable};
 use std::alloc::{AllocError, Global};
 use tokei_cli::{Cli, OverrideConfig};
 use tokei_config::{Config, ConfigRead};
-use tokei_earlier::{InputError, add_input};
+use tokei_earlier::{InputError, add_bytes, add_input};
 use tokei_folders::{Fault, Folders, Kind};
-use tokei_io::{Counted, Source};
+use tokei_io::Source;
 use tokei_languages::Languages;
 use tokei_stats::shown::shown;
 use tokei_table::LanguageTable;
@@ -84,8 +85,8 @@ fn no_table<F: Folders>(alloc: Global, folders: &mut F, place: &str) -> Ending
 }
 
 /// The table that the command line names, else the one of the environment. Over a known tree
-/// `NoTable` says that no file can be read at its place, and `Table` or `TableFlaw` why the one there
-/// is refused; else memory ran out.
+/// `NoTable` says that no file can be read at its place, and `Table` or `TableFlaw` why the one
+/// there is refused; else memory ran out.
 pub fn table_of<F: Folders>(
     alloc: Global,
     cli: &Cli,
@@ -141,6 +142,7 @@ fn languages_of<S: Source>(
     source: &mut S,
 ) -> Result<Languages, Ending>
     ensures read { IfOk result (AreRead table.now (S.remaining source.old)) }
+    ensures cause { IfErr result (IsEndingOfInput table.now (S.remaining source.old)) }
     ensures failed { IfErr result (λ e. status_of e ≡ 1) }
 {
     let mut languages = Languages::new(alloc);
@@ -149,6 +151,27 @@ fn languages_of<S: Source>(
         Err(InputError::Memory) => Err(Ending::Memory),
         Err(InputError::Overflow) => Err(Ending::Overflow),
         Err(InputError::Unreadable) => Err(unreadable(alloc, source)),
+        Err(InputError::TooLong) => Err(Ending::TooLong),
+        Err(_) => Err(Ending::Input(String::from_str(alloc, name)?)),
+    }
+}
+
+/// The languages of earlier results that are bytes.
+fn languages_in(
+    alloc: Global,
+    table: &LanguageTable,
+    name: &str,
+    bytes: &[u8],
+) -> Result<Languages, Ending>
+    ensures read { IfOk result (AreRead table.now (Some bytes.now)) }
+    ensures cause { IfErr result (IsEndingOfInput table.now (Some bytes.now)) }
+    ensures failed { IfErr result (λ e. status_of e ≡ 1) }
+{
+    let mut languages = Languages::new(alloc);
+    match add_bytes(alloc, table, bytes, &mut languages) {
+        Ok(()) => Ok(languages),
+        Err(InputError::Memory) => Err(Ending::Memory),
+        Err(InputError::Overflow) => Err(Ending::Overflow),
         Err(InputError::TooLong) => Err(Ending::TooLong),
         Err(_) => Err(Ending::Input(String::from_str(alloc, name)?)),
     }
@@ -172,15 +195,11 @@ fn earlier_in<F: Folders>(
     folders: &F,
 ) -> Result<Languages, Ending>
     ensures read { IfOk result (AreRead table.now (Some text.now)) }
+    ensures cause { IfErr result (IsEndingOfInput table.now (Some text.now)) }
     ensures failed { IfErr result (λ e. status_of e ≡ 1) }
 {
     let name = with_cause(alloc, text, folders)?;
-    languages_of(
-        alloc,
-        table,
-        name.as_str(),
-        &mut Counted::new(text.as_bytes()),
-    )
+    languages_in(alloc, table, name.as_str(), text.as_bytes())
 }
 
 /// The earlier results of that name: the file's; where it can't be read those on standard input, if
@@ -195,17 +214,22 @@ fn earlier_of<F: Folders, S: Source>(
     ensures same { SameTree F.tree folders.old folders.new }
     ensures told { Told (F.tree folders.old) (λ t. IfOk result (AreRead
         table.now (bytes_named t (S.remaining input.old) name.now))) }
+    ensures cause { Told (F.tree folders.old) (λ t. IfErr result (IsEndingOfInput
+        table.now (bytes_named t (S.remaining input.old) name.now))) }
     ensures failed { IfErr result (λ e. status_of e ≡ 1) }
 {
     match folders.read_named(name) {
-        Ok(bytes) => languages_of(alloc, table, name, &mut Counted::new(bytes.as_slice())),
+        Ok(bytes) => languages_in(alloc, table, name, &bytes),
         Err(Fault::Memory) => Err(no_memory(alloc, folders)),
         Err(Fault::Refused) if name == "stdin" => languages_of(alloc, table, name, input),
         Err(Fault::Refused) => earlier_in(alloc, table, name, folders),
     }
 }
 
-/// The earlier results that the command line names, if it names any.
+/// The earlier results that the command line names, if it names any. Over a known tree, and where
+/// the bytes are known that the name means, `Input` says that these are refused, `Overflow` that a
+/// sum of theirs passes the greatest `usize`, and `TooLong` that they are too many. `Unreadable`
+/// and `UnreadableBy` come where standard input had a fault; else memory ran out.
 pub fn earlier<F: Folders, S: Source>(
     alloc: Global,
     table: &LanguageTable,
@@ -215,6 +239,8 @@ pub fn earlier<F: Folders, S: Source>(
 ) -> Result<Option<Languages>, Ending>
     ensures same { SameTree F.tree folders.old folders.new }
     ensures told { Told (F.tree folders.old) (λ t. IfOk result (AreEarlier
+        table.now t (S.remaining input.old) (file_input_of cli.now))) }
+    ensures cause { Told (F.tree folders.old) (λ t. IfErr result (IsEndingOfEarlier
         table.now t (S.remaining input.old) (file_input_of cli.now))) }
     ensures failed { IfErr result (λ e. status_of e ≡ 1) }
 {
@@ -228,6 +254,7 @@ pub fn earlier<F: Folders, S: Source>(
 fn check_root<F: Folders>(alloc: Global, folders: &mut F, root: &str) -> Result<(), Ending>
     ensures same { SameTree F.tree folders.old folders.new }
     ensures told { Told (F.tree folders.old) (λ t. OnOk result (stands t root.now ≡ true)) }
+    ensures cause { Told (F.tree folders.old) (λ t. IfErr result (IsEndingOfRoot t root.now)) }
     ensures failed { IfErr result (λ e. status_of e ≡ 1) }
 {
     if root.is_empty() {
@@ -240,7 +267,8 @@ fn check_root<F: Folders>(alloc: Global, folders: &mut F, root: &str) -> Result<
     }
 }
 
-/// Refuses the first root at which nothing stands.
+/// Refuses the first root at which nothing stands: over a known tree `Missing` names it, and else
+/// memory ran out.
 pub fn check_roots<F: Folders>(
     alloc: Global,
     folders: &mut F,
@@ -248,6 +276,8 @@ pub fn check_roots<F: Folders>(
 ) -> Result<(), Ending>
     ensures same { SameTree F.tree folders.old folders.new }
     ensures told { Told (F.tree folders.old) (λ t. OnOk result (AllStand t (texts_of roots.now))) }
+    ensures cause { Told (F.tree folders.old)
+        (λ t. IfErr result (IsEndingOfRoots t (texts_of roots.now))) }
     ensures failed { IfErr result (λ e. status_of e ≡ 1) }
 {
     for root in roots {
