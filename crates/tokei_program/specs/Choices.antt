@@ -1,6 +1,6 @@
 -- What the words of a command line choose: what is written, by which column it is sorted, and how
 -- numbers are shown.
-use Rattle.std.specs.Prelude.{◌≡◌, ℕ, List, Option, None, Some, Result, unwrap_or}
+use Rattle.std.specs.Prelude.{◌≡◌, ◌⊎◌, ℕ, List, Option, None, Some, Result, unwrap_or}
 use Rattle.std.specs.Result.{result_ok}
 use Rattle.tokei.specs.declared.job.Wanted.{Wanted}
 use Rattle.tokei.specs.declared.job.Wanted.TheVariants.{Stream, Document, Report}
@@ -16,7 +16,7 @@ use Rattle.tokei_options.specs.declared.number_format.NumberFormatStyle.TheVaria
 use Rattle.tokei_options.specs.declared.streaming.Streaming.{Streaming}
 use Rattle.tokei_options.specs.Forms.{ParsesForm}
 use Rattle.tokei_options.specs.Styles.{ParsesStyle}
-use Rattle.tokei_program.specs.Words.{ReadsAs}
+use Rattle.tokei_program.specs.Words.{IsUnread, ReadsAs}
 
 -- a word gives the format that it names
 abbrev pub GivesFormat : List ℕ → Result Format FormatError → Type 0
@@ -49,3 +49,9 @@ pub record Chooses (line : Cli) (wanted : Wanted) (sort : Option Sort)
   pub numbers : Option NumberFormatStyle
   pub named : ReadsAs ParsesStyle line.number_format numbers
   pub shown : style ≡ style_of numbers
+
+-- one of the words by which a command line chooses names nothing that can be had
+abbrev pub HasUnread : Cli → Type 0
+HasUnread line =
+    IsUnread GivesFormat line.output ⊎ (IsUnread ParsesForm line.streaming
+    ⊎ (IsUnread GivesColumn line.sort ⊎ IsUnread ParsesStyle line.number_format))

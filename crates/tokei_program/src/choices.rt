@@ -1,7 +1,8 @@
 //! The words of a command line that are read by the types that they name.
-ghost use Rattle.std.specs.Prelude.{◌≡◌, IfOk};
-ghost use Rattle.tokei_program.specs.Choices.{Chooses, GivesFormat, wanted_of};
-ghost use Rattle.tokei_program.specs.Words.{ReadsAs};
+ghost use Rattle.std.specs.Prelude.{◌≡◌, IfErr, IfOk};
+ghost use Rattle.tokei_invocation.specs.Statuses.{status_of};
+ghost use Rattle.tokei_program.specs.Choices.{Chooses, GivesFormat, HasUnread, wanted_of};
+ghost use Rattle.tokei_program.specs.Words.{IsUnread, ReadsAs};
 
 use std::alloc::{AllocError, Global};
 use std::str::FromStr;
@@ -36,7 +37,8 @@ fn read<T: FromStr>(
 ) -> Result<Option<T>, Ending>
 where
     T::Err: Drop,
-    ensures { IfOk result (ReadsAs T.from_str_gives word.now) }
+    ensures read { IfOk result (ReadsAs T.from_str_gives word.now) }
+    ensures refused { IfErr result (λ e. status_of e ≡ 2 → IsUnread T.from_str_gives word.now) }
 {
     let Some(word) = word else {
         return Ok(None);
@@ -56,7 +58,8 @@ fn not_built(alloc: Global, word: &str) -> Result<String, AllocError> {
 /// The format that a word names, where there is a word; refused with a text that says so where it
 /// names one that isn't built in.
 fn output(alloc: Global, word: &Option<String>) -> Result<Option<Format>, Ending>
-    ensures { IfOk result (ReadsAs GivesFormat word.now) }
+    ensures read { IfOk result (ReadsAs GivesFormat word.now) }
+    ensures refused { IfErr result (λ e. status_of e ≡ 2 → IsUnread GivesFormat word.now) }
 {
     if let Some(text) = word {
         if matches!(Format::from_str(text.as_str()), Err(FormatError::NotBuilt)) {
@@ -78,10 +81,11 @@ fn wanted(streaming: Option<Streaming>, output: Option<Format>) -> Wanted
 }
 
 impl Choices {
-    /// Reads the words of output, streaming, sort and num-format. One that isn't known is a refused
-    /// command line.
+    /// Reads the words of output, streaming, sort and num-format. One that isn't
+    /// known makes it a refused command line, and nothing else does.
     pub fn of(alloc: Global, cli: &Cli) -> Result<Choices, Ending>
-        ensures { IfOk result (λ c. Chooses cli.now c.wanted c.sort c.numbers) }
+        ensures read { IfOk result (λ c. Chooses cli.now c.wanted c.sort c.numbers) }
+        ensures refused { IfErr result (λ e. status_of e ≡ 2 → HasUnread cli.now) }
     {
         let output = output(alloc, &cli.output)?;
         let streaming = read::<Streaming>(alloc, "streaming", &STREAMING, &cli.streaming)?;

@@ -5,7 +5,7 @@ ghost use Rattle.tokei.specs.Refused.{IsBegun};
 ghost use Rattle.tokei.specs.Shapes.{HasShape};
 ghost use Rattle.tokei_cli.specs.CommandLines.{excludes_of, inputs_of};
 ghost use Rattle.tokei_folders.specs.Answers.{Told};
-ghost use Rattle.tokei_program.specs.Choices.{Chooses};
+ghost use Rattle.tokei_program.specs.Choices.{Chooses, HasUnread};
 ghost use Rattle.tokei_program.specs.Beside.{AnyMet, IsBeside, SaysBeside, ShowsAsked, ShowsNotes, MetIn};
 ghost use Rattle.tokei_invocation.specs.Configs.{AreFlaws, IsConfig};
 ghost use Rattle.tokei_invocation.specs.Messages.{Says};
@@ -156,6 +156,7 @@ fn carry_out<F: Folders, S: Source, W: Sink>(
     ensures unwritten { IfErr result (λ e. status_of e ≡ 2 → out.new ≡ out.old) }
     ensures unread { IfErr result (λ e. status_of e ≡ 2
         → (folders.new ≡ folders.old) × (input.new ≡ input.old)) }
+    ensures refused { IfErr result (λ e. status_of e ≡ 2 → HasUnread cli.now) }
 {
     let choices = Choices::of(alloc, cli)?;
     if cli.print_languages {
