@@ -1,7 +1,7 @@
 -- How an ending says why a call of the program failed.
-use Rattle.std.specs.Prelude.{◌≡◌, ◌<◌, ℕ, Bool, true, false, ⊤, List, [], ◌∷◌, ◌++◌, length, Option, None, Some, IfSome, Result, Err, string_bytes}
+use Rattle.std.specs.Prelude.{◌≡◌, ◌<◌, ◌≤◌, ℕ, Bool, true, false, ⊤, List, [], ◌∷◌, ◌++◌, length, Option, None, Some, IfSome, Result, Err, codes, string_bytes}
 use Rattle.tokei_invocation.specs.declared.ending.Ending.{Ending}
-use Rattle.tokei_invocation.specs.declared.ending.Ending.TheVariants.{NoTable, Table, TableFlaw, Input, Unreadable, UnreadableBy, TooLong, Missing, Memory, NoRoom, Overflow, Write, Unwritten}
+use Rattle.tokei_invocation.specs.declared.ending.Ending.TheVariants.{NoTable, Table, TableFlaw as TableFlawed, Input, Unreadable, UnreadableBy, TooLong, Missing, Memory, NoRoom, Overflow, Write, Unwritten}
 use Rattle.tokei_earlier.specs.Adding.{PassesUsize}
 use Rattle.tokei_earlier.specs.Bounds.{most_bytes}
 use Rattle.tokei_earlier.specs.Outcome.{outcome_of_bytes}
@@ -9,11 +9,16 @@ use Rattle.tokei_earlier.specs.declared.error.InputError.{InputError}
 use Rattle.tokei_folders.specs.Tree.{Tree}
 use Rattle.tokei_invocation.specs.Earlier.{bytes_named}
 use Rattle.tokei_invocation.specs.Roots.{AllStand, stands}
+use Rattle.tokei_invocation.specs.Tables.{content_at}
 use Rattle.tokei_io.specs.declared.error.OutputError.{OutputError}
+use Rattle.tokei_io.specs.Reads.{most_reads}
 use Rattle.tokei_io.specs.declared.error.OutputError.TheVariants.{Memory as OutOfMemory, Overflow as Overflowing, Write as Unwritable}
 use Rattle.tokei_stats.specs.Shown.{shown}
 use Rattle.tokei_table.specs.Row.{Row}
-use Rattle.tokei_table_json.specs.declared.error.TableError.{TableError}
+use Rattle.tokei_table_json.specs.Flaws.{rows_in, Tells}
+use Rattle.tokei_table_json.specs.Outcome.{outcome}
+use Rattle.tokei_table_json.specs.Sentences.{sentence_of}
+use Rattle.tokei_table_json.specs.declared.flaw.TableFlaw.{TableFlaw}
 
 -- Memory ran out; the place for whose content it didn't suffice may be named.
 abbrev pub is_out_of_memory : Ending → Bool
@@ -44,47 +49,68 @@ is_ending_of OutOfMemory ending = is_out_of_memory ending
 is_ending_of Overflowing ending = is_overflow ending
 is_ending_of Unwritable ending = is_unwritten ending
 
--- The ending says why a table is refused: by its error, or by the language and the member that go
--- wrong. Memory may run out over these.
-abbrev pub IsEndingOfTable : TableError → Ending → Type 0
-IsEndingOfTable error (Table cause) = cause ≡ error
-IsEndingOfTable error (TableFlaw cause) = ⊤
-IsEndingOfTable error Memory = ⊤
-IsEndingOfTable error ending = ⊥
+-- The ending says why an output wasn't whole: that a sum passes the greatest `usize`, or that its
+-- writer had a fault, where these are so. Memory may run out.
+abbrev pub IsEndingOfOutput : Type 0 → Type 0 → Ending → Type 0
+IsEndingOfOutput Overflows Fault Overflow = Overflows
+IsEndingOfOutput Overflows Fault Write = Fault
+IsEndingOfOutput Overflows Fault (Unwritten cause) = Fault
+IsEndingOfOutput Overflows Fault Memory = ⊤
+IsEndingOfOutput Overflows Fault (NoRoom place) = ⊤
+IsEndingOfOutput Overflows Fault ending = ⊥
 
--- The ending says why no table was taken, by what reading it at its place answers: that no file can
--- be read there, or why the table is refused. Memory may run out before.
-abbrev pub IsEndingAt : Option (Result (List Row) TableError) → Ending → Type 0
-IsEndingAt found Memory = ⊤
-IsEndingAt found (NoRoom place) = ⊤
+-- A sentence names the language of a table, and what goes with it, for which the bytes are refused.
+pub record IsFlawTold (bytes sentence : List ℕ) : Type 0 where
+  pub flaw : TableFlaw
+  pub told : sentence ≡ sentence_of flaw
+  pub is : Tells (outcome bytes) (rows_in bytes) flaw
+
+-- The ending says why no table was taken, by the content of its place: that no file can be read
+-- there, or why the table is refused. Memory may run out.
+abbrev pub IsEndingAt : Option (List ℕ) → Ending → Type 0
+IsEndingAt content Memory = ⊤
+IsEndingAt content (NoRoom place) = ⊤
 IsEndingAt None (NoTable text) = ⊤
-IsEndingAt (Some (Err error)) (Table cause) = cause ≡ error
-IsEndingAt (Some (Err error)) (TableFlaw cause) = ⊤
-IsEndingAt found ending = ⊥
+IsEndingAt (Some bytes) (Table cause) = outcome bytes ≡ Err cause
+IsEndingAt (Some bytes) (TableFlawed text) = IsFlawTold bytes (string_bytes text)
+IsEndingAt content ending = ⊥
 
 -- Bytes that are refused as earlier results.
 pub record AreRefused (rows : List Row) (bytes : List ℕ) : Type 0 where
   pub cause : InputError
   pub refused : outcome_of_bytes rows bytes ≡ Err cause
 
+-- A source that had these bytes has counted a further fault, or they are as many as the reads that
+-- are made of it. Where its count was at the greatest `u64`, nothing is said.
+abbrev pub HasFailed : Option (List ℕ) → ℕ → ℕ → Type 0
+HasFailed bytes before after =
+    before < 18446744073709551615 → after ≡ before → IfSome bytes (λ text. most_reads ≤ length text)
+
 -- The ending says why no earlier results were taken from bytes, where these are known: that they
--- are refused, that a sum passes the greatest `usize`, or that they are too many. A source may have
--- a fault, and memory may run out.
-abbrev pub IsEndingOfInput : List Row → Option (List ℕ) → Ending → Type 0
-IsEndingOfInput rows bytes (Input name) = IfSome bytes (AreRefused rows)
-IsEndingOfInput rows bytes Overflow = IfSome bytes (PassesUsize rows [])
-IsEndingOfInput rows bytes TooLong = IfSome bytes (λ text. most_bytes < length text)
-IsEndingOfInput rows bytes Unreadable = ⊤
-IsEndingOfInput rows bytes (UnreadableBy cause) = ⊤
-IsEndingOfInput rows bytes Memory = ⊤
-IsEndingOfInput rows bytes (NoRoom place) = ⊤
-IsEndingOfInput rows bytes ending = ⊥
+-- are refused, that a sum passes the greatest `usize`, or that they are too many. That they can't
+-- be read it says where reading has failed. Memory may run out.
+abbrev pub IsEndingOfInput : List Row → Option (List ℕ) → Type 0 → Ending → Type 0
+IsEndingOfInput rows bytes Failed (Input name) = IfSome bytes (AreRefused rows)
+IsEndingOfInput rows bytes Failed Overflow = IfSome bytes (PassesUsize rows [])
+IsEndingOfInput rows bytes Failed TooLong = IfSome bytes (λ text. most_bytes < length text)
+IsEndingOfInput rows bytes Failed Unreadable = Failed
+IsEndingOfInput rows bytes Failed (UnreadableBy cause) = Failed
+IsEndingOfInput rows bytes Failed Memory = ⊤
+IsEndingOfInput rows bytes Failed (NoRoom place) = ⊤
+IsEndingOfInput rows bytes Failed ending = ⊥
+
+-- A name means standard input, since no file of that name can be read, and reading that has failed.
+pub record InputFailed (tree : Tree) (name : List ℕ) (Failed : Type 0) : Type 0 where
+  pub named : name ≡ codes "stdin"
+  pub unfiled : content_at tree name ≡ None
+  pub failed : Failed
 
 -- The ending says why the earlier results of a name weren't taken, where the command line has one.
-abbrev pub IsEndingOfEarlier : List Row → Tree → Option (List ℕ) → Option (List ℕ) → Ending → Type 0
-IsEndingOfEarlier rows tree input None ending = ⊥
-IsEndingOfEarlier rows tree input (Some name) ending =
-    IsEndingOfInput rows (bytes_named tree input name) ending
+abbrev pub IsEndingOfEarlier : List Row → Tree → Option (List ℕ) → Type 0 → Option (List ℕ) → Ending
+    → Type 0
+IsEndingOfEarlier rows tree input Failed None ending = ⊥
+IsEndingOfEarlier rows tree input Failed (Some name) ending =
+    IsEndingOfInput rows (bytes_named tree input name) (InputFailed tree name Failed) ending
 
 -- Nothing stands at the root, which a text names.
 pub record IsMissing (tree : Tree) (root text : List ℕ) : Type 0 where

@@ -1,55 +1,42 @@
 //! How a run of the program ends where it doesn't do what was asked.
-ghost use Rattle.std.specs.Prelude.{IfOk, string_bytes};
-ghost use Rattle.tokei_invocation.specs.Messages.{IsMessage};
+ghost use Rattle.std.specs.Prelude.{◌≡◌, ◌++◌, IfOk, string_bytes};
+ghost use Rattle.tokei_invocation.specs.Messages.{IsMessage, line_of, words_of};
 
 use std::alloc::{AllocError, AllocFailed, Global};
-use thiserror::Error;
+use std::error::Error;
+use std::fmt;
 use tokei_table_json::TableError;
 
 /// Why nothing is counted, or why the count isn't shown.
-#[derive(Debug, Drop, Error)]
+#[derive(Debug, Drop)]
 pub enum Ending {
     /// The command line is refused. The text is for standard error.
-    #[error("{0}")]
     Refused(String),
     /// The file of the table can't be read: its place, and why.
-    #[error("the table of languages can't be read: {0}")]
     NoTable(String),
     /// The table is refused.
-    #[error("{0}")]
     Table(TableError),
     /// The table is refused, with the language and the member that go wrong.
-    #[error("the table of languages is refused: {0}")]
     TableFlaw(String),
     /// The earlier results of this name are refused.
-    #[error("failed to parse input file: {0}")]
     Input(String),
     /// Standard input had a fault.
-    #[error("earlier results can't be read")]
     Unreadable,
     /// Standard input had a fault, in the system's words.
-    #[error("earlier results can't be read: {0}")]
     UnreadableBy(String),
     /// Standard input has more bytes than may be read.
-    #[error("the input has more than 4,294,967,296 bytes")]
     TooLong,
     /// Nothing stands at this root.
-    #[error("'{0}' not found.")]
     Missing(String),
     /// An allocation failed.
-    #[error("out of memory")]
     Memory,
     /// Memory didn't suffice for the content of this place.
-    #[error("out of memory: {0}")]
     NoRoom(String),
     /// A sum passes the greatest `usize`.
-    #[error("a sum passes the greatest usize")]
     Overflow,
     /// A writer had a fault.
-    #[error("the output can't be written")]
     Write,
     /// A writer had a fault, in the system's words.
-    #[error("the output can't be written: {0}")]
     Unwritten(String),
 }
 
@@ -68,15 +55,53 @@ impl Ending {
         }
     }
 
-    /// The line that says on standard error how the run ended.
+    /// The words of an ending: what stands before the text that it carries, that text, and what
+    /// stands behind it.
+    fn words(&self) -> (&str, &str, &str)
+        ensures { result.0.now ++ (result.1.now ++ result.2.now) ≡ words_of self.now }
+    {
+        match self {
+            Ending::Refused(text) => ("", text.as_str(), ""),
+            Ending::NoTable(text) => ("the table of languages can't be read: ", text.as_str(), ""),
+            Ending::Table(cause) => ("", cause.words(), ""),
+            Ending::TableFlaw(text) => ("the table of languages is refused: ", text.as_str(), ""),
+            Ending::Input(name) => ("failed to parse input file: ", name.as_str(), ""),
+            Ending::Unreadable => ("earlier results can't be read", "", ""),
+            Ending::UnreadableBy(text) => ("earlier results can't be read: ", text.as_str(), ""),
+            Ending::TooLong => ("the input has more than 4,294,967,296 bytes", "", ""),
+            Ending::Missing(root) => ("'", root.as_str(), "' not found."),
+            Ending::Memory => ("out of memory", "", ""),
+            Ending::NoRoom(place) => ("out of memory: ", place.as_str(), ""),
+            Ending::Overflow => ("a sum passes the greatest usize", "", ""),
+            Ending::Write => ("the output can't be written", "", ""),
+            Ending::Unwritten(text) => ("the output can't be written: ", text.as_str(), ""),
+        }
+    }
+
+    /// The line that says on standard error how the run ended: its words behind `Error: `, and a
+    /// newline. It fails where memory runs out.
     #[tactic(auto, using(crate::proofs::Causes::line_is_message))]
     pub fn line(&self, alloc: Global) -> Result<String, AllocError>
-        ensures { IfOk result (λ line. IsMessage (string_bytes line)) }
+        ensures message { IfOk result (λ line. IsMessage (string_bytes line)) }
+        ensures told { IfOk result (λ line. string_bytes line ≡ line_of self.now) }
     {
         let cause = format!(in alloc; "{}", self)?;
         format!(in alloc; "Error: {cause}\n")
     }
 }
+
+impl fmt::Display for Ending {
+    ghost use Rattle.std.specs.Prelude.{Some};
+
+    ghost output = { λ ending. Some (words_of ending) };
+
+    fn fmt<W: fmt::Write>(&self, f: &mut fmt::Formatter<W>) -> fmt::Result {
+        let (before, text, behind) = self.words();
+        write!(f, "{before}{text}{behind}")
+    }
+}
+
+impl Error for Ending {}
 
 impl From<AllocError> for Ending {
     ghost use Rattle.std.specs.Prelude.{◌≡◌};

@@ -6,11 +6,11 @@ ghost use Rattle.tokei_folders.specs.Answers.{Told};
 ghost use Rattle.tokei_folders.specs.AsTheyWere.{SameTree};
 ghost use Rattle.tokei_invocation.specs.Configs.{AreFlaws, IsConfig};
 ghost use Rattle.tokei_invocation.specs.Earlier.{AreEarlier, AreRead, bytes_named};
-ghost use Rattle.tokei_invocation.specs.Endings.{IsEndingAt, IsEndingOfEarlier, IsEndingOfInput, IsEndingOfRoot};
-ghost use Rattle.tokei_invocation.specs.Endings.{IsEndingOfRoots};
+ghost use Rattle.tokei_invocation.specs.Endings.{HasFailed, InputFailed, is_out_of_memory, IsEndingAt, IsEndingOfEarlier};
+ghost use Rattle.tokei_invocation.specs.Endings.{IsEndingOfInput, IsEndingOfRoot, IsEndingOfRoots};
 ghost use Rattle.tokei_invocation.specs.Roots.{AllStand, stands};
 ghost use Rattle.tokei_invocation.specs.Statuses.{status_of};
-ghost use Rattle.tokei_invocation.specs.Tables.{place_of_table, table_at};
+ghost use Rattle.tokei_invocation.specs.Tables.{content_at, place_of_table, table_at};
 ghost use Rattle.tokei_walk.specs.Walks.{texts_of};
 
 use crate::ending::Ending;
@@ -97,7 +97,7 @@ pub fn table_of<F: Folders>(
     ensures told { Told (F.tree folders.old) (λ t. IfOk result
         (λ rows. table_at t (place_of_table env.now cli.now) ≡ Some (Ok rows))) }
     ensures cause { Told (F.tree folders.old) (λ t. IfErr result
-        (λ e. IsEndingAt (table_at t (place_of_table env.now cli.now)) e)) }
+        (IsEndingAt (content_at t (place_of_table env.now cli.now)))) }
     ensures failed { IfErr result (λ e. status_of e ≡ 1) }
 {
     let place = place_of_table(cli, env);
@@ -113,7 +113,7 @@ pub fn table_of<F: Folders>(
 }
 
 /// The configuration of the user's files, below the options of the command line, and the files that
-/// count as empty.
+/// count as empty. It fails only where memory runs out.
 pub fn configuration<F: Folders>(
     alloc: Global,
     cli: &Cli,
@@ -126,6 +126,7 @@ pub fn configuration<F: Folders>(
         IsConfig table.now cli.now env.now t r.config)) }
     ensures flawed { Told (F.tree folders.old) (λ t. IfOk result (λ r.
         AreFlaws table.now env.now t r.flaws.items)) }
+    ensures cause { IfErr result (λ e. is_out_of_memory e ≡ true) }
     ensures failed { IfErr result (λ e. status_of e ≡ 1) }
 {
     let dirs = config_dirs(alloc, env)?;
@@ -142,7 +143,8 @@ fn languages_of<S: Source>(
     source: &mut S,
 ) -> Result<Languages, Ending>
     ensures read { IfOk result (AreRead table.now (S.remaining source.old)) }
-    ensures cause { IfErr result (IsEndingOfInput table.now (S.remaining source.old)) }
+    ensures cause { IfErr result (IsEndingOfInput table.now (S.remaining source.old)
+        (HasFailed (S.remaining source.old) (S.faults source.old) (S.faults source.new))) }
     ensures failed { IfErr result (λ e. status_of e ≡ 1) }
 {
     let mut languages = Languages::new(alloc);
@@ -164,7 +166,7 @@ fn languages_in(
     bytes: &[u8],
 ) -> Result<Languages, Ending>
     ensures read { IfOk result (AreRead table.now (Some bytes.now)) }
-    ensures cause { IfErr result (IsEndingOfInput table.now (Some bytes.now)) }
+    ensures cause { IfErr result (IsEndingOfInput table.now (Some bytes.now) ⊥) }
     ensures failed { IfErr result (λ e. status_of e ≡ 1) }
 {
     let mut languages = Languages::new(alloc);
@@ -195,7 +197,7 @@ fn earlier_in<F: Folders>(
     folders: &F,
 ) -> Result<Languages, Ending>
     ensures read { IfOk result (AreRead table.now (Some text.now)) }
-    ensures cause { IfErr result (IsEndingOfInput table.now (Some text.now)) }
+    ensures cause { IfErr result (IsEndingOfInput table.now (Some text.now) ⊥) }
     ensures failed { IfErr result (λ e. status_of e ≡ 1) }
 {
     let name = with_cause(alloc, text, folders)?;
@@ -215,7 +217,8 @@ fn earlier_of<F: Folders, S: Source>(
     ensures told { Told (F.tree folders.old) (λ t. IfOk result (AreRead
         table.now (bytes_named t (S.remaining input.old) name.now))) }
     ensures cause { Told (F.tree folders.old) (λ t. IfErr result (IsEndingOfInput
-        table.now (bytes_named t (S.remaining input.old) name.now))) }
+        table.now (bytes_named t (S.remaining input.old) name.now) (InputFailed t name.now
+        (HasFailed (S.remaining input.old) (S.faults input.old) (S.faults input.new))))) }
     ensures failed { IfErr result (λ e. status_of e ≡ 1) }
 {
     match folders.read_named(name) {
@@ -229,7 +232,8 @@ fn earlier_of<F: Folders, S: Source>(
 /// The earlier results that the command line names, if it names any. Over a known tree, and where
 /// the bytes are known that the name means, `Input` says that these are refused, `Overflow` that a
 /// sum of theirs passes the greatest `usize`, and `TooLong` that they are too many. `Unreadable`
-/// and `UnreadableBy` come where standard input had a fault; else memory ran out.
+/// and `UnreadableBy` come only where the name means standard input, and that had a fault or didn't
+/// end within 4,294,967,296 reads; else memory ran out.
 pub fn earlier<F: Folders, S: Source>(
     alloc: Global,
     table: &LanguageTable,
@@ -241,7 +245,9 @@ pub fn earlier<F: Folders, S: Source>(
     ensures told { Told (F.tree folders.old) (λ t. IfOk result (AreEarlier
         table.now t (S.remaining input.old) (file_input_of cli.now))) }
     ensures cause { Told (F.tree folders.old) (λ t. IfErr result (IsEndingOfEarlier
-        table.now t (S.remaining input.old) (file_input_of cli.now))) }
+        table.now t (S.remaining input.old)
+        (HasFailed (S.remaining input.old) (S.faults input.old) (S.faults input.new))
+        (file_input_of cli.now))) }
     ensures failed { IfErr result (λ e. status_of e ≡ 1) }
 {
     match cli.file_input() {

@@ -1,7 +1,8 @@
 //! How a run ends, in the words that folders, readers and writers have for it.
-ghost use Rattle.std.specs.Prelude.{◌≡◌, true};
-ghost use Rattle.tokei_invocation.specs.Endings.{is_ending_of, is_out_of_memory, is_unreadable, is_unwritten, IsEndingOfTable};
+ghost use Rattle.std.specs.Prelude.{◌≡◌, true, Err, IfOk, IfSome, Some, string_bytes};
+ghost use Rattle.tokei_invocation.specs.Endings.{is_ending_of, is_out_of_memory, is_unreadable, is_unwritten, IsEndingAt, IsFlawTold};
 ghost use Rattle.tokei_invocation.specs.Statuses.{status_of};
+ghost use Rattle.tokei_table_json.specs.Outcome.{outcome};
 
 use crate::ending::Ending;
 use std::alloc::{AllocError, Global};
@@ -30,7 +31,9 @@ pub fn no_memory<F: Folders>(alloc: Global, folders: &F) -> Ending
 }
 
 /// The language and the member that go wrong in a table, where those can be told.
-fn flaw_in(alloc: Global, bytes: &[u8]) -> Result<Option<String>, AllocError> {
+fn flaw_in(alloc: Global, bytes: &[u8]) -> Result<Option<String>, AllocError>
+    ensures { IfOk result (λ o. IfSome o (λ text. IsFlawTold bytes.now (string_bytes text))) }
+{
     match TableFlaw::find(alloc, bytes)? {
         Some(flaw) => Ok(Some(format!(in alloc; "{flaw}")?)),
         None => Ok(None),
@@ -40,7 +43,7 @@ fn flaw_in(alloc: Global, bytes: &[u8]) -> Result<Option<String>, AllocError> {
 /// A table is refused: with the language and the member that go wrong, where those can be told.
 pub fn refused_table(alloc: Global, error: TableError, bytes: &[u8]) -> Ending
     ensures failed { status_of result ≡ 1 }
-    ensures told { IsEndingOfTable error result }
+    ensures told { outcome bytes.now ≡ Err error → IsEndingAt (Some bytes.now) result }
 {
     match flaw_in(alloc, bytes) {
         Ok(Some(flaw)) => Ending::TableFlaw(flaw),

@@ -1,8 +1,10 @@
 //! Why a run ended, said in one message.
-ghost use Rattle.std.specs.Prelude.{◌≡◌, ◌≢◌, ◌<◌, ◌≤◌, OnOk};
+ghost use Rattle.std.specs.Prelude.{◌≡◌, ◌≢◌, ◌<◌, ◌≤◌, ◌⊎◌, OnOk};
 ghost use Rattle.std.specs.Io.KnownBytes.{Appends};
 ghost use Rattle.tokei_io.specs.Faults.{faults_after};
-ghost use Rattle.tokei_invocation.specs.Messages.{Says};
+ghost use Rattle.tokei_invocation.specs.Messages.{Says, SaysOf};
+ghost use Rattle.tokei_cli.specs.Printing.{failure_text};
+ghost use Rattle.tokei_invocation.specs.declared.ending.Ending.TheVariants.{Memory};
 ghost use Rattle.tokei_invocation.specs.Statuses.{status_of};
 
 use crate::ending::Ending;
@@ -16,6 +18,9 @@ const NO_MEMORY: &str = "Error: out of memory\n";
 /// Says that the earlier results of this name are refused.
 fn say_refused_input<E: Sink>(alloc: Global, name: &str, err: &mut E) -> Result<(), OutputError>
     ensures said { OnOk result (Says (E.contents err.old) (E.contents err.new)) }
+    ensures told { OnOk result
+        (Appends (E.contents err.old) (E.contents err.new) (failure_text name.now)
+        ⊎ SaysOf Memory (E.contents err.old) (E.contents err.new)) }
     ensures faults { E.faults err.old < u64.MAX
         → E.faults err.new ≡ faults_after result (E.faults err.old) }
 {
@@ -32,6 +37,8 @@ fn say_refused_input<E: Sink>(alloc: Global, name: &str, err: &mut E) -> Result<
 fn say<E: Sink>(alloc: Global, ending: &Ending, err: &mut E) -> Result<(), OutputError>
     ensures said { status_of ending.now ≡ 1
         → OnOk result (Says (E.contents err.old) (E.contents err.new)) }
+    ensures told { OnOk result (SaysOf ending.now (E.contents err.old) (E.contents err.new)
+        ⊎ SaysOf Memory (E.contents err.old) (E.contents err.new)) }
     ensures faults { E.faults err.old < u64.MAX
         → E.faults err.new ≡ faults_after result (E.faults err.old) }
 {
@@ -45,7 +52,8 @@ fn say<E: Sink>(alloc: Global, ending: &Ending, err: &mut E) -> Result<(), Outpu
     }
 }
 
-/// Says how a run ended, and answers its exit status; 1 where nothing can be said.
+/// Says how a run ended, and answers its exit status; 1 where nothing can be said. Where the writer
+/// has no fault, it has gained what is said of the ending, or that memory ran out.
 pub fn conclude<E: Sink>(alloc: Global, ending: &Ending, err: &mut E) -> u8
     ensures failed { result ≢ 0 }
     ensures status { result ≤ 2 }
@@ -54,6 +62,11 @@ pub fn conclude<E: Sink>(alloc: Global, ending: &Ending, err: &mut E) -> u8
         → E.faults err.new ≡ E.faults err.old }
     ensures said { E.faults err.old < u64.MAX → E.faults err.new ≡ E.faults err.old
         → result ≡ 1 → Says (E.contents err.old) (E.contents err.new) }
+    ensures told { E.faults err.old < u64.MAX → E.faults err.new ≡ E.faults err.old
+        → SaysOf ending.now (E.contents err.old) (E.contents err.new)
+        ⊎ SaysOf Memory (E.contents err.old) (E.contents err.new) }
+    ensures own { E.faults err.old < u64.MAX → E.faults err.new ≡ E.faults err.old
+        → result ≡ status_of ending.now }
 {
     match say(alloc, ending, err) {
         Ok(()) => ending.status(),

@@ -13,3 +13,4 @@ pub mod Outcome
 pub mod ReadErrors
 pub mod RowLaws
 pub mod Rows
+pub mod Sentences

@@ -1,5 +1,5 @@
 //! Where the text of a refused table goes wrong.
-ghost use Rattle.std.specs.Prelude.{◌≡◌, ◌<◌, not, Err, map, length};
+ghost use Rattle.std.specs.Prelude.{◌≡◌, ◌<◌, ◌++◌, not, Err, map, length, string_bytes};
 ghost use Rattle.std.specs.Prelude.{is_some, is_err, IfOk, IfSome};
 ghost use Rattle.std.specs.List.{list_all, list_any};
 ghost use Rattle.json.specs.Value.{value_view};
@@ -10,7 +10,9 @@ ghost use Rattle.tokei_json_tree.specs.TreeData.{data_of};
 ghost use Rattle.tokei_table_json.specs.Flaws.{IsFlaw, Tells, TellsToken, TellsName, TellsTotal, TellsFallback};
 ghost use Rattle.tokei_table_json.specs.Flaws.{rows_in, rows_in_data, rows_in_value};
 ghost use Rattle.tokei_table_json.specs.Flaws.{is_flawed_value, is_flawed_data, is_flawed};
+ghost use Rattle.tokei_table_json.specs.Members.{member_of};
 ghost use Rattle.tokei_table_json.specs.Outcome.{outcome, outcome_of, outcome_of_value, tested};
+ghost use Rattle.tokei_table_json.specs.Sentences.{fault_of, form_of, subject_of};
 ghost use Rattle.tokei_table.specs.KeyOrder.{IsInKeyOrder};
 ghost use Rattle.tokei_table_row.specs.RowOf.{row_of};
 ghost use Rattle.tokei_table_rules.specs.Fallbacks.{has_fallbacks};
@@ -49,7 +51,9 @@ pub struct TableFlaw {
 }
 
 /// What a member of a language has to hold, in words.
-fn form_of(member: &str) -> &str {
+fn form_of(member: &str) -> &str
+    ensures { result.now ≡ form_of (member_of member.now) }
+{
     match member_of(member) {
         Member::Name | Member::Kind => "text",
         Member::Truth(_) => "truth value",
@@ -61,7 +65,10 @@ fn form_of(member: &str) -> &str {
 
 impl TableFlaw {
     /// How the sentence begins, up to the language's key: a text, a name and a text.
-    fn subject(&self) -> (&str, &str, &str) {
+    fn subject(&self) -> (&str, &str, &str)
+        ensures { result.0.now ++ (result.1.now ++ result.2.now)
+            ≡ subject_of self.now.cause (string_bytes self.now.word) }
+    {
         let word = self.word.as_str();
         match self.cause {
             TableError::Layout if word.is_empty() => ("the language '", "", ""),
@@ -72,7 +79,10 @@ impl TableFlaw {
     }
 
     /// How the sentence goes on behind the quote that closes the key: a text, a name and a text.
-    fn fault(&self) -> (&str, &str, &str) {
+    fn fault(&self) -> (&str, &str, &str)
+        ensures { result.0.now ++ (result.1.now ++ result.2.now) ≡ fault_of self.now.cause
+            (string_bytes self.now.word) (string_bytes self.now.other) }
+    {
         let word = self.word.as_str();
         match self.cause {
             TableError::Layout if word.is_empty() => (" is no object", "", ""),
@@ -93,9 +103,10 @@ impl TableFlaw {
 
 /// The flaw in a sentence, which names the language and the member.
 impl fmt::Display for TableFlaw {
-    ghost use Rattle.std.specs.Prelude.{None};
+    ghost use Rattle.std.specs.Prelude.{Some};
+    ghost use Rattle.tokei_table_json.specs.Sentences.{sentence_of};
 
-    ghost output = { λ _. None };
+    ghost output = { λ flaw. Some (sentence_of flaw) };
 
     fn fmt<W: fmt::Write>(&self, f: &mut fmt::Formatter<W>) -> fmt::Result {
         let (start, name, joint) = self.subject();
