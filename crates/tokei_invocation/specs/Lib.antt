@@ -8,6 +8,7 @@ pub mod FlawLines
 pub mod Messages
 pub mod NoteLines
 pub mod NotesText
+pub mod OutputEndings
 pub mod Roots
 pub mod Shown
 pub mod Statuses

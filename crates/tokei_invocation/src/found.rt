@@ -1,13 +1,14 @@
 //! What the command line and the environment name, as it is found: the table of languages, the
 //! configuration, earlier results, and whether something stands at each root.
-ghost use Rattle.std.specs.Prelude.{◌≡◌, true, IfErr, IfOk, OnOk, None, Some, Ok};
+ghost use Rattle.std.specs.Prelude.{◌≡◌, true, IfErr, IfOk, OnOk, None, Some, Ok, string_bytes};
 ghost use Rattle.tokei_cli.specs.CommandLines.{file_input_of};
 ghost use Rattle.tokei_folders.specs.Answers.{Told};
 ghost use Rattle.tokei_folders.specs.AsTheyWere.{SameTree};
 ghost use Rattle.tokei_invocation.specs.Configs.{AreFlaws, IsConfig};
 ghost use Rattle.tokei_invocation.specs.Earlier.{AreEarlier, AreRead, bytes_named};
-ghost use Rattle.tokei_invocation.specs.Endings.{HasFailed, InputFailed, is_out_of_memory, IsEndingAt, IsEndingOfEarlier};
-ghost use Rattle.tokei_invocation.specs.Endings.{IsEndingOfInput, IsEndingOfRoot, IsEndingOfRoots};
+ghost use Rattle.tokei_invocation.specs.Endings.{HasFailed, InputFailed, IsEndingAt, IsEndingOfEarlier};
+ghost use Rattle.tokei_invocation.specs.Endings.{IsEndingOfInput, IsEndingOfNoTable, IsEndingOfRoot, IsEndingOfRoots, Names};
+ghost use Rattle.tokei_invocation.specs.OutputEndings.{is_out_of_memory};
 ghost use Rattle.tokei_invocation.specs.Roots.{AllStand, stands};
 ghost use Rattle.tokei_invocation.specs.Statuses.{status_of};
 ghost use Rattle.tokei_invocation.specs.Tables.{content_at, place_of_table, table_at};
@@ -62,6 +63,7 @@ fn place_and_cause<F: Folders>(
     place: &str,
 ) -> Result<String, AllocError>
     ensures same { SameTree F.tree folders.old folders.new }
+    ensures named { IfOk result (λ text. Names place.now (string_bytes text)) }
 {
     let words = folders.cause(alloc)?;
     let cause = if words.is_empty() {
@@ -76,7 +78,7 @@ fn place_and_cause<F: Folders>(
 fn no_table<F: Folders>(alloc: Global, folders: &mut F, place: &str) -> Ending
     ensures same { SameTree F.tree folders.old folders.new }
     ensures failed { status_of result ≡ 1 }
-    ensures told { IsEndingAt None result }
+    ensures told { IsEndingOfNoTable place.now result }
 {
     match place_and_cause(alloc, folders, place) {
         Ok(text) => Ending::NoTable(text),
@@ -85,8 +87,8 @@ fn no_table<F: Folders>(alloc: Global, folders: &mut F, place: &str) -> Ending
 }
 
 /// The table that the command line names, else the one of the environment. Over a known tree
-/// `NoTable` says that no file can be read at its place, and `Table` or `TableFlaw` why the one
-/// there is refused; else memory ran out.
+/// `NoTable` names its place, at which no file can be read, and `Table` or `TableFlaw` says why the
+/// one there is refused; else memory ran out.
 pub fn table_of<F: Folders>(
     alloc: Global,
     cli: &Cli,
@@ -96,8 +98,8 @@ pub fn table_of<F: Folders>(
     ensures same { SameTree F.tree folders.old folders.new }
     ensures told { Told (F.tree folders.old) (λ t. IfOk result
         (λ rows. table_at t (place_of_table env.now cli.now) ≡ Some (Ok rows))) }
-    ensures cause { Told (F.tree folders.old) (λ t. IfErr result
-        (IsEndingAt (content_at t (place_of_table env.now cli.now)))) }
+    ensures cause { Told (F.tree folders.old) (λ t. IfErr result (IsEndingAt
+        (place_of_table env.now cli.now) (content_at t (place_of_table env.now cli.now)))) }
     ensures failed { IfErr result (λ e. status_of e ≡ 1) }
 {
     let place = place_of_table(cli, env);
@@ -143,7 +145,7 @@ fn languages_of<S: Source>(
     source: &mut S,
 ) -> Result<Languages, Ending>
     ensures read { IfOk result (AreRead table.now (S.remaining source.old)) }
-    ensures cause { IfErr result (IsEndingOfInput table.now (S.remaining source.old)
+    ensures cause { IfErr result (IsEndingOfInput table.now name.now (S.remaining source.old)
         (HasFailed (S.remaining source.old) (S.faults source.old) (S.faults source.new))) }
     ensures failed { IfErr result (λ e. status_of e ≡ 1) }
 {
@@ -166,7 +168,7 @@ fn languages_in(
     bytes: &[u8],
 ) -> Result<Languages, Ending>
     ensures read { IfOk result (AreRead table.now (Some bytes.now)) }
-    ensures cause { IfErr result (IsEndingOfInput table.now (Some bytes.now) ⊥) }
+    ensures cause { IfErr result (IsEndingOfInput table.now name.now (Some bytes.now) ⊥) }
     ensures failed { IfErr result (λ e. status_of e ≡ 1) }
 {
     let mut languages = Languages::new(alloc);
@@ -181,7 +183,9 @@ fn languages_in(
 
 /// A name, and why nothing could be read by it, where the folders have words for that and the name
 /// doesn't begin as a document does.
-fn with_cause<F: Folders>(alloc: Global, name: &str, folders: &F) -> Result<String, AllocError> {
+fn with_cause<F: Folders>(alloc: Global, name: &str, folders: &F) -> Result<String, AllocError>
+    ensures { IfOk result (λ text. Names name.now (string_bytes text)) }
+{
     let words = folders.cause(alloc)?;
     if words.is_empty() || name.as_bytes().starts_with(b"{") {
         return String::from_str(alloc, name);
@@ -197,7 +201,7 @@ fn earlier_in<F: Folders>(
     folders: &F,
 ) -> Result<Languages, Ending>
     ensures read { IfOk result (AreRead table.now (Some text.now)) }
-    ensures cause { IfErr result (IsEndingOfInput table.now (Some text.now) ⊥) }
+    ensures cause { IfErr result (IsEndingOfInput table.now text.now (Some text.now) ⊥) }
     ensures failed { IfErr result (λ e. status_of e ≡ 1) }
 {
     let name = with_cause(alloc, text, folders)?;
@@ -216,8 +220,8 @@ fn earlier_of<F: Folders, S: Source>(
     ensures same { SameTree F.tree folders.old folders.new }
     ensures told { Told (F.tree folders.old) (λ t. IfOk result (AreRead
         table.now (bytes_named t (S.remaining input.old) name.now))) }
-    ensures cause { Told (F.tree folders.old) (λ t. IfErr result (IsEndingOfInput
-        table.now (bytes_named t (S.remaining input.old) name.now) (InputFailed t name.now
+    ensures cause { Told (F.tree folders.old) (λ t. IfErr result (IsEndingOfInput table.now
+        name.now (bytes_named t (S.remaining input.old) name.now) (InputFailed t name.now
         (HasFailed (S.remaining input.old) (S.faults input.old) (S.faults input.new))))) }
     ensures failed { IfErr result (λ e. status_of e ≡ 1) }
 {
@@ -230,10 +234,10 @@ fn earlier_of<F: Folders, S: Source>(
 }
 
 /// The earlier results that the command line names, if it names any. Over a known tree, and where
-/// the bytes are known that the name means, `Input` says that these are refused, `Overflow` that a
-/// sum of theirs passes the greatest `usize`, and `TooLong` that they are too many. `Unreadable`
-/// and `UnreadableBy` come only where the name means standard input, and that had a fault or didn't
-/// end within 4,294,967,296 reads; else memory ran out.
+/// the bytes are known that the name means, `Input` has the name and says that they are refused,
+/// `Overflow` that a sum of theirs passes the greatest `usize`, and `TooLong` that they are too
+/// many. `Unreadable` and `UnreadableBy` come only where the name means standard input, and that
+/// had a fault or didn't end within 4,294,967,296 reads; else memory ran out.
 pub fn earlier<F: Folders, S: Source>(
     alloc: Global,
     table: &LanguageTable,

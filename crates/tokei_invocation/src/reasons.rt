@@ -1,6 +1,7 @@
 //! How a run ends, in the words that folders, readers and writers have for it.
-ghost use Rattle.std.specs.Prelude.{◌≡◌, true, Err, IfOk, IfSome, Some, string_bytes};
-ghost use Rattle.tokei_invocation.specs.Endings.{is_ending_of, is_out_of_memory, is_unreadable, is_unwritten, IsEndingAt, IsFlawTold};
+ghost use Rattle.std.specs.Prelude.{◌≡◌, true, Err, IfOk, IfSome, string_bytes};
+ghost use Rattle.tokei_invocation.specs.Endings.{IsEndingOfTable, IsFlawTold};
+ghost use Rattle.tokei_invocation.specs.OutputEndings.{is_ending_of, is_out_of_memory, is_unreadable, is_unwritten};
 ghost use Rattle.tokei_invocation.specs.Statuses.{status_of};
 ghost use Rattle.tokei_table_json.specs.Outcome.{outcome};
 
@@ -43,7 +44,7 @@ fn flaw_in(alloc: Global, bytes: &[u8]) -> Result<Option<String>, AllocError>
 /// A table is refused: with the language and the member that go wrong, where those can be told.
 pub fn refused_table(alloc: Global, error: TableError, bytes: &[u8]) -> Ending
     ensures failed { status_of result ≡ 1 }
-    ensures told { outcome bytes.now ≡ Err error → IsEndingAt (Some bytes.now) result }
+    ensures told { outcome bytes.now ≡ Err error → IsEndingOfTable bytes.now result }
 {
     match flaw_in(alloc, bytes) {
         Ok(Some(flaw)) => Ending::TableFlaw(flaw),
