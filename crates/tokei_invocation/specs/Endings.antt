@@ -1,5 +1,5 @@
 -- How an ending says why a call of the program failed.
-use Rattle.std.specs.Prelude.{◌≡◌, ◌<◌, ◌≤◌, ℕ, false, ⊤, List, [], ◌∷◌, ◌++◌, length, Option, None, Some, IfSome, Result, Err, codes, string_bytes}
+use Rattle.std.specs.Prelude.{◌≡◌, ◌<◌, ◌≤◌, ℕ, false, ⊤, List, [], ◌∷◌, ◌++◌, length, Option, None, Some, IfSome, Err, codes, string_bytes}
 use Rattle.tokei_invocation.specs.declared.ending.Ending.{Ending}
 use Rattle.tokei_invocation.specs.declared.ending.Ending.TheVariants.{NoTable, Table, TableFlaw as TableFlawed, Input, Unreadable, UnreadableBy, TooLong, Missing, Memory, NoRoom, Overflow}
 use Rattle.tokei_earlier.specs.Adding.{PassesUsize}

@@ -1,4 +1,5 @@
 pub mod Asking
 pub mod Jobs
 pub mod Leaving
+pub mod Reasons
 pub mod Shaping

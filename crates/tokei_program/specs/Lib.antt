@@ -5,6 +5,7 @@ pub mod Choices
 pub mod Columns
 pub mod Jobs
 pub mod Leaving
+pub mod Reasons
 pub mod Shapes
 pub mod Words
 pub mod Writing

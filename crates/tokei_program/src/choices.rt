@@ -1,5 +1,6 @@
 //! The words of a command line that are read by the types that they name.
-ghost use Rattle.std.specs.Prelude.{◌≡◌, IfErr, IfOk};
+ghost use Rattle.std.specs.Prelude.{◌≡◌, true, IfErr, IfOk};
+ghost use Rattle.tokei_invocation.specs.OutputEndings.{is_out_of_memory};
 ghost use Rattle.tokei_invocation.specs.Statuses.{status_of};
 ghost use Rattle.tokei_program.specs.Choices.{Chooses, GivesFormat, HasUnread, wanted_of};
 ghost use Rattle.tokei_program.specs.Words.{IsUnread, ReadsAs};
@@ -39,6 +40,7 @@ where
     T::Err: Drop,
     ensures read { IfOk result (ReadsAs T.from_str_gives word.now) }
     ensures refused { IfErr result (λ e. status_of e ≡ 2 → IsUnread T.from_str_gives word.now) }
+    ensures cause { IfErr result (λ e. status_of e ≡ 1 → is_out_of_memory e ≡ true) }
 {
     let Some(word) = word else {
         return Ok(None);
@@ -60,6 +62,7 @@ fn not_built(alloc: Global, word: &str) -> Result<String, AllocError> {
 fn output(alloc: Global, word: &Option<String>) -> Result<Option<Format>, Ending>
     ensures read { IfOk result (ReadsAs GivesFormat word.now) }
     ensures refused { IfErr result (λ e. status_of e ≡ 2 → IsUnread GivesFormat word.now) }
+    ensures cause { IfErr result (λ e. status_of e ≡ 1 → is_out_of_memory e ≡ true) }
 {
     if let Some(text) = word {
         if matches!(Format::from_str(text.as_str()), Err(FormatError::NotBuilt)) {
@@ -81,11 +84,12 @@ fn wanted(streaming: Option<Streaming>, output: Option<Format>) -> Wanted
 }
 
 impl Choices {
-    /// Reads the words of output, streaming, sort and num-format. One that isn't
-    /// known makes it a refused command line, and nothing else does.
+    /// Reads the words of output, streaming, sort and num-format. One that isn't known makes it a
+    /// refused command line, and nothing else does; else memory ran out.
     pub fn of(alloc: Global, cli: &Cli) -> Result<Choices, Ending>
         ensures read { IfOk result (λ c. Chooses cli.now c.wanted c.sort c.numbers) }
         ensures refused { IfErr result (λ e. status_of e ≡ 2 → HasUnread cli.now) }
+        ensures cause { IfErr result (λ e. status_of e ≡ 1 → is_out_of_memory e ≡ true) }
     {
         let output = output(alloc, &cli.output)?;
         let streaming = read::<Streaming>(alloc, "streaming", &STREAMING, &cli.streaming)?;

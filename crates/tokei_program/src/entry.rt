@@ -1,18 +1,22 @@
 //! The whole program but for its real ends.
-ghost use Rattle.std.specs.Prelude.{◌≡◌, ◌≢◌, ◌<◌, ◌≤◌, ◌⊎◌, [], IfErr, IfOk, Ok, OnErr, OnOk, Some, map, string_bytes};
+ghost use Rattle.std.specs.Prelude.{◌≡◌, ◌≢◌, ◌<◌, ◌≤◌, ◌⊎◌, [], false, true, IfErr, IfOk, None, Ok, OnErr, OnOk, Some, map, string_bytes};
 ghost use Rattle.tokei.specs.Output.{Outputs};
 ghost use Rattle.tokei.specs.Refused.{IsBegun};
 ghost use Rattle.tokei.specs.Shapes.{HasShape};
+ghost use Rattle.tokei.specs.Sums.{Fits};
 ghost use Rattle.tokei_cli.specs.CommandLines.{excludes_of, inputs_of};
 ghost use Rattle.tokei_folders.specs.Answers.{Told};
 ghost use Rattle.tokei_program.specs.Choices.{Chooses, HasUnread};
 ghost use Rattle.tokei_program.specs.Beside.{AnyMet, IsBeside, SaysBeside, ShowsAsked, ShowsNotes, MetIn};
 ghost use Rattle.tokei_invocation.specs.Configs.{AreFlaws, IsConfig};
+ghost use Rattle.tokei_invocation.specs.Endings.{HasFailed};
 ghost use Rattle.tokei_invocation.specs.Messages.{Says};
+ghost use Rattle.tokei_invocation.specs.OutputEndings.{IsEndingOfOutput};
 ghost use Rattle.tokei_invocation.specs.Statuses.{status_of};
 ghost use Rattle.tokei_invocation.specs.Tables.{place_of_table, table_at};
 ghost use Rattle.tokei_program.specs.Jobs.{IsJob};
 ghost use Rattle.tokei_program.specs.Leaving.{HasNoFault, Leaves, LeavesAsked, LeavesCounts};
+ghost use Rattle.tokei_program.specs.Reasons.{HasFault, IsEndingBy, IsEndingOf, SaysWhy};
 ghost use Rattle.tokei_program.specs.Shapes.{Answers, AnswersBy, CountsSome, ListsSome};
 ghost use Rattle.tokei_program.specs.Writing.{Writes, WritesAsked, WritesCounts, WritesList};
 ghost use Rattle.tokei_folders.specs.AsTheyWere.{SameTree, NoFault};
@@ -58,6 +62,9 @@ fn write_prepared<F: Folders, W: Sink>(
         prepared.now.job t (W.contents out.old) (W.contents out.new)
         ⊎ IsBegun prepared.now.job.wanted table.now prepared.now.job t
         (W.contents out.old) (W.contents out.new))) }
+    ensures cause { Told (F.tree folders.old) (λ t. IfErr result (IsEndingOfOutput
+        (¬ Fits prepared.now.job.wanted table.now prepared.now.job t)
+        (HasFault W.faults out.old out.new))) }
     ensures failed { IfErr result (λ e. status_of e ≡ 1) }
 {
     match run(alloc, table, folders, &prepared.job, out) {
@@ -95,6 +102,10 @@ fn write_counts<F: Folders, S: Source, W: Sink>(
     ensures left { Told (F.tree folders.old) (λ t. OnErr result
         (HasNoFault W.faults out.old out.new → LeavesCounts request.now.cli.now request.now.env.now
         t (S.remaining input.old) (W.contents out.old) (W.contents out.new))) }
+    ensures cause { Told (F.tree folders.old) (λ t. IfErr result (IsEndingBy false
+        request.now.cli.now request.now.env.now t (S.remaining input.old)
+        (HasFailed (S.remaining input.old) (S.faults input.old) (S.faults input.new))
+        (HasFault W.faults out.old out.new))) }
     ensures failed { IfErr result (λ e. status_of e ≡ 1) }
 {
     let table = table_of(alloc, request.cli, request.env, folders)?;
@@ -121,6 +132,8 @@ fn write_list<F: Folders, W: Sink>(
     ensures fault { NoFault W.faults out.old out.new result }
     ensures left { OnErr result (HasNoFault W.faults out.old out.new
         → W.contents out.new ≡ W.contents out.old) }
+    ensures cause { Told (F.tree folders.old) (λ t. IfErr result (IsEndingBy true
+        cli.now env.now t None ⊥ (HasFault W.faults out.old out.new))) }
     ensures failed { IfErr result (λ e. status_of e ≡ 1) }
 {
     let table = table_of(alloc, cli, env, folders)?;
@@ -157,6 +170,10 @@ fn carry_out<F: Folders, S: Source, W: Sink>(
     ensures unread { IfErr result (λ e. status_of e ≡ 2
         → (folders.new ≡ folders.old) × (input.new ≡ input.old)) }
     ensures refused { IfErr result (λ e. status_of e ≡ 2 → HasUnread cli.now) }
+    ensures cause { Told (F.tree folders.old) (λ t. IfErr result (λ e. status_of e ≡ 1
+        → IsEndingBy cli.now.print_languages cli.now env.now t (S.remaining input.old)
+        (HasFailed (S.remaining input.old) (S.faults input.old) (S.faults input.new))
+        (HasFault W.faults out.old out.new) e)) }
 {
     let choices = Choices::of(alloc, cli)?;
     if cli.print_languages {
@@ -193,6 +210,10 @@ fn answer_words<F: Folders, S: Source, W: Sink>(
     ensures unwritten { IfErr result (λ e. status_of e ≡ 2 → out.new ≡ out.old) }
     ensures unread { IfErr result (λ e. status_of e ≡ 2
         → (folders.new ≡ folders.old) × (input.new ≡ input.old)) }
+    ensures cause { Told (F.tree folders.old) (λ t. IfErr result (λ e. status_of e ≡ 1
+        → IsEndingOf (map (λ w. w.now) words.now) env.now t (S.remaining input.old)
+        (HasFailed (S.remaining input.old) (S.faults input.old) (S.faults input.new))
+        (HasFault W.faults out.old out.new) e)) }
 {
     match Cli::from_words(alloc, words) {
         Ok(cli) => carry_out(alloc, &cli, env, folders, input, out),
@@ -217,10 +238,11 @@ fn answer_words<F: Folders, S: Source, W: Sink>(
 /// notes of what was passed over and of configuration files that count as empty, as many as the
 /// command line shows. A refused command line is seen before anything is read or written. Any other
 /// status than 1 says that neither writer had a fault. Where the status is 1 and `err` had no
-/// fault, one message stands in it; where `out` had none, it has over a known tree what it held,
-/// all of what was asked for, or the heading of a stream and the rows of the first files, and
-/// nothing else. Once a run has begun, the memory of its table isn't given back, since the process
-/// mostly ends next.
+/// fault, one message stands in it, and over a known tree it is true: it names the table, the
+/// earlier results, the first root, the sum or the writer that the program failed by, or says that
+/// memory ran out. Where `out` had no fault, it has over a known tree what it held, all of what was
+/// asked for, or the heading of a stream and the rows of the first files, and nothing else. Once a
+/// run has begun, the memory of its table isn't given back, since the process mostly ends next.
 pub fn program<F: Folders, S: Source, W: Sink, E: Sink>(
     alloc: Global,
     words: &[&str],
@@ -255,6 +277,11 @@ pub fn program<F: Folders, S: Source, W: Sink, E: Sink>(
         → E.faults err.new ≡ E.faults err.old }
     ensures said { E.faults err.old < u64.MAX → E.faults err.new ≡ E.faults err.old
         → result ≡ 1 → Says (E.contents err.old) (E.contents err.new) }
+    ensures why { Told (F.tree folders.old) (λ t. E.faults err.old < u64.MAX
+        → E.faults err.new ≡ E.faults err.old → result ≡ 1
+        → SaysWhy (map (λ w. w.now) words.now) env.now t (S.remaining input.old)
+        (HasFailed (S.remaining input.old) (S.faults input.old) (S.faults input.new))
+        (HasFault W.faults out.old out.new) (E.contents err.old) (E.contents err.new)) }
 {
     match answer_words(alloc, words, env, folders, input, out) {
         Ok(text) => say_beside(text.as_bytes(), err),

@@ -4,10 +4,12 @@ ghost use Rattle.tokei_cli.specs.CommandLines.{excludes_of};
 ghost use Rattle.tokei_folders.specs.Answers.{Told};
 ghost use Rattle.tokei_folders.specs.AsTheyWere.{SameTree};
 ghost use Rattle.tokei_invocation.specs.Configs.{AreFlaws};
+ghost use Rattle.tokei_invocation.specs.Endings.{HasFailed};
 ghost use Rattle.tokei_invocation.specs.Statuses.{status_of};
 ghost use Rattle.tokei_program.specs.Choices.{Chooses};
 ghost use Rattle.tokei_program.specs.Columns.{columns_of};
 ghost use Rattle.tokei_program.specs.Jobs.{IsJob, IsJobOf};
+ghost use Rattle.tokei_program.specs.Reasons.{IsEndingBefore};
 ghost use Rattle.tokei_walk.specs.Walks.{texts_of};
 
 use crate::choices::Choices;
@@ -99,6 +101,9 @@ pub fn prepare<F: Folders, S: Source>(
         table.now request.now.cli.now request.now.env.now t (S.remaining input.old) p.job)) }
     ensures flawed { Told (F.tree folders.old) (λ t. IfOk result (λ p.
         AreFlaws table.now request.now.env.now t p.flaws.items)) }
+    ensures cause { Told (F.tree folders.old) (λ t. IfErr result (IsEndingBefore
+        table.now request.now.cli.now t (S.remaining input.old)
+        (HasFailed (S.remaining input.old) (S.faults input.old) (S.faults input.new)))) }
     ensures failed { IfErr result (λ e. status_of e ≡ 1) }
 {
     let read = configuration(alloc, request.cli, request.env, table, folders)?;

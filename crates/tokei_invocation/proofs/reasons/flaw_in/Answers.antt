@@ -1,6 +1,5 @@
 -- The sentence is that of a flaw that is there.
-use Rattle.std.proofs.Common.{◌≡◌, rules, string_bytes}
-use Rattle.tokei_table_json.specs.Sentences.{sentence_of}
+use Rattle.std.proofs.Common.{rules}
 use Rattle.tokei_invocation.proofs.reasons.flaw_in.Goals as goal
 
 pub returns-in_ok-format-in-Some : goal.returns-in_ok-format-in-Some
