@@ -1,7 +1,7 @@
 -- How an ending says why a call of the program failed.
-use Rattle.std.specs.Prelude.{◌≡◌, ◌<◌, ◌≤◌, ℕ, false, ⊤, List, [], ◌∷◌, ◌++◌, length, Option, None, Some, IfSome, Err, codes, string_bytes}
+use Rattle.std.specs.Prelude.{◌≡◌, ◌<◌, ◌≤◌, ◌⊎◌, ℕ, false, ⊤, List, [], ◌∷◌, ◌++◌, length, Option, None, Some, IfSome, Err, codes, string_bytes}
 use Rattle.tokei_invocation.specs.declared.ending.Ending.{Ending}
-use Rattle.tokei_invocation.specs.declared.ending.Ending.TheVariants.{NoTable, Table, TableFlaw as TableFlawed, Input, Unreadable, UnreadableBy, TooLong, Missing, Memory, NoRoom, Overflow}
+use Rattle.tokei_invocation.specs.declared.ending.Ending.TheVariants.{NoTable, Table, Input, Unreadable, UnreadableBy, TooLong, Missing, Memory, NoRoom, Overflow}
 use Rattle.tokei_earlier.specs.Adding.{PassesUsize}
 use Rattle.tokei_earlier.specs.Bounds.{most_bytes}
 use Rattle.tokei_earlier.specs.Outcome.{outcome_of_bytes}
@@ -15,28 +15,40 @@ use Rattle.tokei_stats.specs.Shown.{shown}
 use Rattle.tokei_table.specs.Row.{Row}
 use Rattle.tokei_table_json.specs.Flaws.{rows_in, Tells}
 use Rattle.tokei_table_json.specs.Outcome.{outcome}
-use Rattle.tokei_table_json.specs.Sentences.{sentence_of}
+use Rattle.tokei_table_json.specs.Sentences.{sentence_of, words_of_error}
+use Rattle.tokei_table_json.specs.declared.error.TableError.{TableError}
 use Rattle.tokei_table_json.specs.declared.flaw.TableFlaw.{TableFlaw}
-
--- A sentence names the language of a table, and what goes with it, for which the bytes are refused.
-pub record IsFlawTold (bytes sentence : List ℕ) : Type 0 where
-  pub flaw : TableFlaw
-  pub told : sentence ≡ sentence_of flaw
-  pub is : Tells (outcome bytes) (rows_in bytes) flaw
 
 -- A text begins with a name; behind it may stand why.
 pub record Names (name text : List ℕ) : Type 0 where
   pub behind : List ℕ
   pub is : text ≡ name ++ behind
 
--- The ending says why bytes are refused as a table: by its cause, or by the language and what goes
--- with it. Memory may run out.
-abbrev pub IsEndingOfTable : List ℕ → Ending → Type 0
-IsEndingOfTable bytes (Table cause) = outcome bytes ≡ Err cause
-IsEndingOfTable bytes (TableFlawed text) = IsFlawTold bytes (string_bytes text)
-IsEndingOfTable bytes Memory = ⊤
-IsEndingOfTable bytes (NoRoom place) = ⊤
-IsEndingOfTable bytes ending = ⊥
+-- Bytes are refused as a table for a cause, which words tell.
+pub record IsErrorTold (bytes words : List ℕ) : Type 0 where
+  pub error : TableError
+  pub told : words ≡ words_of_error error
+  pub refused : outcome bytes ≡ Err error
+
+-- Bytes are refused as a table for a flaw, which words tell: they name its language, and what goes
+-- with it.
+pub record IsFlawTold (bytes words : List ℕ) : Type 0 where
+  pub flaw : TableFlaw
+  pub told : words ≡ sentence_of flaw
+  pub is : Tells (outcome bytes) (rows_in bytes) flaw
+
+-- A text says of a place why the bytes there are refused as a table.
+pub record IsTableTold (place bytes text : List ℕ) : Type 0 where
+  pub words : List ℕ
+  pub is : text ≡ place ++ (codes ": " ++ words)
+  pub why : IsErrorTold bytes words ⊎ IsFlawTold bytes words
+
+-- The ending says why the bytes at a place are refused as a table. Memory may run out.
+abbrev pub IsEndingOfTable : List ℕ → List ℕ → Ending → Type 0
+IsEndingOfTable place bytes (Table text) = IsTableTold place bytes (string_bytes text)
+IsEndingOfTable place bytes Memory = ⊤
+IsEndingOfTable place bytes (NoRoom unheld) = ⊤
+IsEndingOfTable place bytes ending = ⊥
 
 -- The ending names a place at which no table can be read. Memory may run out.
 abbrev pub IsEndingOfNoTable : List ℕ → Ending → Type 0
@@ -48,7 +60,7 @@ IsEndingOfNoTable place ending = ⊥
 -- The ending says why no table was taken from a place, by the content there.
 abbrev pub IsEndingAt : List ℕ → Option (List ℕ) → Ending → Type 0
 IsEndingAt place None ending = IsEndingOfNoTable place ending
-IsEndingAt place (Some bytes) ending = IsEndingOfTable bytes ending
+IsEndingAt place (Some bytes) ending = IsEndingOfTable place bytes ending
 
 -- Bytes that are refused as earlier results.
 pub record AreRefused (rows : List Row) (bytes : List ℕ) : Type 0 where

@@ -3,8 +3,7 @@ use Rattle.std.specs.Prelude.{◌≡◌, ℕ, List, [], ◌∷◌, ◌++◌, Opt
 use Rattle.std.specs.Io.KnownBytes.{Appends}
 use Rattle.tokei_cli.specs.Printing.{failure_text}
 use Rattle.tokei_invocation.specs.declared.ending.Ending.{Ending}
-use Rattle.tokei_invocation.specs.declared.ending.Ending.TheVariants.{Refused, NoTable, Table, TableFlaw, Input, Unreadable, UnreadableBy, TooLong, Missing, Memory, NoRoom, Overflow, Write, Unwritten}
-use Rattle.tokei_table_json.specs.Sentences.{words_of_error}
+use Rattle.tokei_invocation.specs.declared.ending.Ending.TheVariants.{Refused, NoTable, Table, Input, Unreadable, UnreadableBy, TooLong, Missing, Memory, NoRoom, Overflow, Write, Unwritten}
 
 -- a text that names a cause: it begins with `Error:` and ends with a newline
 pub record IsMessage (text : List ℕ) : Type 0 where
@@ -21,8 +20,7 @@ pub record Says (old new : Option (List ℕ)) : Type 0 where
 abbrev pub words_of : Ending → List ℕ
 words_of (Refused text) = string_bytes text
 words_of (NoTable text) = codes "the table of languages can't be read: " ++ string_bytes text
-words_of (Table cause) = words_of_error cause
-words_of (TableFlaw text) = codes "the table of languages is refused: " ++ string_bytes text
+words_of (Table text) = codes "the table of languages is refused: " ++ string_bytes text
 words_of (Input name) = codes "failed to parse input file: " ++ string_bytes name
 words_of Unreadable = codes "earlier results can't be read"
 words_of (UnreadableBy text) = codes "earlier results can't be read: " ++ string_bytes text

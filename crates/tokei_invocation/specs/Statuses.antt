@@ -1,14 +1,13 @@
 -- The exit statuses of the program.
 use Rattle.std.specs.Prelude.{ℕ}
 use Rattle.tokei_invocation.specs.declared.ending.Ending.{Ending}
-use Rattle.tokei_invocation.specs.declared.ending.Ending.TheVariants.{Refused, NoTable, Table, TableFlaw, Input, Unreadable, UnreadableBy, TooLong, Missing, Memory, NoRoom, Overflow, Write, Unwritten}
+use Rattle.tokei_invocation.specs.declared.ending.Ending.TheVariants.{Refused, NoTable, Table, Input, Unreadable, UnreadableBy, TooLong, Missing, Memory, NoRoom, Overflow, Write, Unwritten}
 
 -- the exit status of a run that doesn't do what was asked
 abbrev pub status_of : Ending → ℕ
 status_of (Refused text) = 2
 status_of (NoTable name) = 1
-status_of (Table cause) = 1
-status_of (TableFlaw cause) = 1
+status_of (Table text) = 1
 status_of (Input name) = 1
 status_of Unreadable = 1
 status_of (UnreadableBy cause) = 1

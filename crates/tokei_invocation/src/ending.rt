@@ -5,7 +5,6 @@ ghost use Rattle.tokei_invocation.specs.Messages.{IsMessage, line_of, words_of};
 use std::alloc::{AllocError, AllocFailed, Global};
 use std::error::Error;
 use std::fmt;
-use tokei_table_json::TableError;
 
 /// Why nothing is counted, or why the count isn't shown.
 #[derive(Debug, Drop)]
@@ -14,10 +13,9 @@ pub enum Ending {
     Refused(String),
     /// The file of the table can't be read: its place, and why.
     NoTable(String),
-    /// The table is refused.
-    Table(TableError),
-    /// The table is refused, with the language and the member that go wrong.
-    TableFlaw(String),
+    /// The table is refused: its place, and why, with the language and the member that go wrong
+    /// where those can be told.
+    Table(String),
     /// The earlier results of this name are refused.
     Input(String),
     /// Standard input had a fault.
@@ -63,8 +61,7 @@ impl Ending {
         match self {
             Ending::Refused(text) => ("", text.as_str(), ""),
             Ending::NoTable(text) => ("the table of languages can't be read: ", text.as_str(), ""),
-            Ending::Table(cause) => ("", cause.words(), ""),
-            Ending::TableFlaw(text) => ("the table of languages is refused: ", text.as_str(), ""),
+            Ending::Table(text) => ("the table of languages is refused: ", text.as_str(), ""),
             Ending::Input(name) => ("failed to parse input file: ", name.as_str(), ""),
             Ending::Unreadable => ("earlier results can't be read", "", ""),
             Ending::UnreadableBy(text) => ("earlier results can't be read: ", text.as_str(), ""),

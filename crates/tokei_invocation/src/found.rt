@@ -87,8 +87,8 @@ fn no_table<F: Folders>(alloc: Global, folders: &mut F, place: &str) -> Ending
 }
 
 /// The table that the command line names, else the one of the environment. Over a known tree
-/// `NoTable` names its place, at which no file can be read, and `Table` or `TableFlaw` says why the
-/// one there is refused; else memory ran out.
+/// `NoTable` names its place, at which no file can be read, and `Table` says why the one there is
+/// refused; else memory ran out.
 pub fn table_of<F: Folders>(
     alloc: Global,
     cli: &Cli,
@@ -107,7 +107,7 @@ pub fn table_of<F: Folders>(
         Ok(bytes) => match LanguageTable::from_json(alloc, &bytes) {
             Ok(table) => Ok(table),
             Err(TableError::Memory) => Err(Ending::Memory),
-            Err(error) => Err(refused_table(alloc, error, &bytes)),
+            Err(error) => Err(refused_table(alloc, place, error, &bytes)),
         },
         Err(Fault::Memory) => Err(no_memory(alloc, folders)),
         Err(Fault::Refused) => Err(no_table(alloc, folders, place)),

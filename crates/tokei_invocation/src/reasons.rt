@@ -1,6 +1,6 @@
 //! How a run ends, in the words that folders, readers and writers have for it.
-ghost use Rattle.std.specs.Prelude.{◌≡◌, true, Err, IfOk, IfSome, string_bytes};
-ghost use Rattle.tokei_invocation.specs.Endings.{IsEndingOfTable, IsFlawTold};
+ghost use Rattle.std.specs.Prelude.{◌≡◌, true, Err, IfOk, string_bytes};
+ghost use Rattle.tokei_invocation.specs.Endings.{IsEndingOfTable, IsTableTold};
 ghost use Rattle.tokei_invocation.specs.OutputEndings.{is_ending_of, is_out_of_memory, is_unreadable, is_unwritten};
 ghost use Rattle.tokei_invocation.specs.Statuses.{status_of};
 ghost use Rattle.tokei_table_json.specs.Outcome.{outcome};
@@ -31,24 +31,31 @@ pub fn no_memory<F: Folders>(alloc: Global, folders: &F) -> Ending
     }
 }
 
-/// The language and the member that go wrong in a table, where those can be told.
-fn flaw_in(alloc: Global, bytes: &[u8]) -> Result<Option<String>, AllocError>
-    ensures { IfOk result (λ o. IfSome o (λ text. IsFlawTold bytes.now (string_bytes text))) }
+/// A place, and why the table there is refused: with the language and the member that go wrong,
+/// where those can be told.
+fn table_and_cause(
+    alloc: Global,
+    place: &str,
+    error: TableError,
+    bytes: &[u8],
+) -> Result<String, AllocError>
+    ensures { outcome bytes.now ≡ Err error
+        → IfOk result (λ text. IsTableTold place.now bytes.now (string_bytes text)) }
 {
     match TableFlaw::find(alloc, bytes)? {
-        Some(flaw) => Ok(Some(format!(in alloc; "{flaw}")?)),
-        None => Ok(None),
+        Some(flaw) => format!(in alloc; "{place}: {flaw}"),
+        None => format!(in alloc; "{place}: {error}"),
     }
 }
 
-/// A table is refused: with the language and the member that go wrong, where those can be told.
-pub fn refused_table(alloc: Global, error: TableError, bytes: &[u8]) -> Ending
+/// The table at a place is refused.
+pub fn refused_table(alloc: Global, place: &str, error: TableError, bytes: &[u8]) -> Ending
     ensures failed { status_of result ≡ 1 }
-    ensures told { outcome bytes.now ≡ Err error → IsEndingOfTable bytes.now result }
+    ensures told { outcome bytes.now ≡ Err error
+        → IsEndingOfTable place.now bytes.now result }
 {
-    match flaw_in(alloc, bytes) {
-        Ok(Some(flaw)) => Ending::TableFlaw(flaw),
-        Ok(None) => Ending::Table(error),
+    match table_and_cause(alloc, place, error, bytes) {
+        Ok(text) => Ending::Table(text),
         Err(_) => Ending::Memory,
     }
 }
