@@ -11,7 +11,7 @@ use std::fmt;
 pub enum Ending {
     /// The command line is refused. The text is for standard error.
     Refused(String),
-    /// The file of the table can't be read: its place, and why.
+    /// The file of the table can't be read: its place, why, and what to do.
     NoTable(String),
     /// The table is refused: its place, and why, with the language and the member that go wrong
     /// where those can be told.

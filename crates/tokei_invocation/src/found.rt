@@ -56,11 +56,21 @@ fn cause_at<F: Folders>(folders: &mut F, place: &str) -> Result<&'static str, Al
     }
 }
 
-/// A place at which no table can be read, and why: in the system's words, or by what stands there.
+/// What to do where no table can be read and no option names one.
+fn remedy(cli: &Cli) -> &'static str {
+    match cli.table() {
+        Some(_) => "",
+        None => "; name one with --table",
+    }
+}
+
+/// A place at which no table can be read, and why: in the system's words, or by what stands there;
+/// and then what to do.
 fn place_and_cause<F: Folders>(
     alloc: Global,
     folders: &mut F,
     place: &str,
+    remedy: &str,
 ) -> Result<String, AllocError>
     ensures same { SameTree F.tree folders.old folders.new }
     ensures named { IfOk result (λ text. Names place.now (string_bytes text)) }
@@ -71,16 +81,16 @@ fn place_and_cause<F: Folders>(
     } else {
         words.as_str()
     };
-    format!(in alloc; "{place}: {cause}")
+    format!(in alloc; "{place}: {cause}{remedy}")
 }
 
-/// That no table can be read at a place, and why.
-fn no_table<F: Folders>(alloc: Global, folders: &mut F, place: &str) -> Ending
+/// That no table can be read at a place, why, and what to do.
+fn no_table<F: Folders>(alloc: Global, folders: &mut F, place: &str, remedy: &str) -> Ending
     ensures same { SameTree F.tree folders.old folders.new }
     ensures failed { status_of result ≡ 1 }
     ensures told { IsEndingOfNoTable place.now result }
 {
-    match place_and_cause(alloc, folders, place) {
+    match place_and_cause(alloc, folders, place, remedy) {
         Ok(text) => Ending::NoTable(text),
         Err(_) => Ending::Memory,
     }
@@ -110,7 +120,7 @@ pub fn table_of<F: Folders>(
             Err(error) => Err(refused_table(alloc, place, error, &bytes)),
         },
         Err(Fault::Memory) => Err(no_memory(alloc, folders)),
-        Err(Fault::Refused) => Err(no_table(alloc, folders, place)),
+        Err(Fault::Refused) => Err(no_table(alloc, folders, place, remedy(cli))),
     }
 }
 
