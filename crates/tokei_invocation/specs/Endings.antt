@@ -1,7 +1,7 @@
 -- How an ending says why a call of the program failed.
 use Rattle.std.specs.Prelude.{◌≡◌, ◌<◌, ◌≤◌, ◌⊎◌, ℕ, false, ⊤, List, [], ◌∷◌, ◌++◌, length, Option, None, Some, IfSome, Err, codes, string_bytes}
 use Rattle.tokei_invocation.specs.declared.ending.Ending.{Ending}
-use Rattle.tokei_invocation.specs.declared.ending.Ending.TheVariants.{NoTable, Table, Input, Unreadable, UnreadableBy, TooLong, Missing, Memory, NoRoom, Overflow}
+use Rattle.tokei_invocation.specs.declared.ending.Ending.TheVariants.{NoTable, Table, Input, TooLong, Unreadable, UnreadableBy, Missing, Memory, NoRoom, Overflow}
 use Rattle.tokei_earlier.specs.Adding.{PassesUsize}
 use Rattle.tokei_earlier.specs.Bounds.{most_bytes}
 use Rattle.tokei_earlier.specs.Outcome.{outcome_of_bytes}
@@ -13,7 +13,7 @@ use Rattle.tokei_invocation.specs.Tables.{content_at}
 use Rattle.tokei_io.specs.Reads.{most_reads}
 use Rattle.tokei_stats.specs.Shown.{shown}
 use Rattle.tokei_table.specs.Row.{Row}
-use Rattle.tokei_table_json.specs.Flaws.{rows_in, Tells}
+use Rattle.tokei_table_json.specs.Flaws.{is_flawed, rows_in, Tells}
 use Rattle.tokei_table_json.specs.Outcome.{outcome}
 use Rattle.tokei_table_json.specs.Sentences.{sentence_of, words_of_error}
 use Rattle.tokei_table_json.specs.declared.error.TableError.{TableError}
@@ -24,11 +24,13 @@ pub record Names (name text : List ℕ) : Type 0 where
   pub behind : List ℕ
   pub is : text ≡ name ++ behind
 
--- Bytes are refused as a table for a cause, which words tell.
+-- Bytes are refused as a table for a cause, which words tell, and no language keeps them from being
+-- one.
 pub record IsErrorTold (bytes words : List ℕ) : Type 0 where
   pub error : TableError
   pub told : words ≡ words_of_error error
   pub refused : outcome bytes ≡ Err error
+  pub unflawed : is_flawed bytes ≡ false
 
 -- Bytes are refused as a table for a flaw, which words tell: they name its language, and what goes
 -- with it.
@@ -74,13 +76,14 @@ HasFailed bytes before after =
     before < 18446744073709551615 → after ≡ before → IfSome bytes (λ text. most_reads ≤ length text)
 
 -- The ending says why no earlier results were taken from the bytes that a name means, where these
--- are known: that they are refused, that a sum passes the greatest `usize`, or that they are too
--- many. That they can't be read it says where reading has failed. Memory may run out.
+-- are known: that they are refused or too many, of which it has the name, or that a sum passes the
+-- greatest `usize`. That they can't be read it says where reading has failed. Memory may run out.
 abbrev pub IsEndingOfInput : List Row → List ℕ → Option (List ℕ) → Type 0 → Ending → Type 0
 IsEndingOfInput rows name bytes Failed (Input text) =
     Names name (string_bytes text) × IfSome bytes (AreRefused rows)
 IsEndingOfInput rows name bytes Failed Overflow = IfSome bytes (PassesUsize rows [])
-IsEndingOfInput rows name bytes Failed TooLong = IfSome bytes (λ text. most_bytes < length text)
+IsEndingOfInput rows name bytes Failed (TooLong text) =
+    Names name (string_bytes text) × IfSome bytes (λ whole. most_bytes < length whole)
 IsEndingOfInput rows name bytes Failed Unreadable = Failed
 IsEndingOfInput rows name bytes Failed (UnreadableBy cause) = Failed
 IsEndingOfInput rows name bytes Failed Memory = ⊤

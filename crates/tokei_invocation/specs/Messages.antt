@@ -3,7 +3,7 @@ use Rattle.std.specs.Prelude.{◌≡◌, ℕ, List, [], ◌∷◌, ◌++◌, Opt
 use Rattle.std.specs.Io.KnownBytes.{Appends}
 use Rattle.tokei_cli.specs.Printing.{failure_text}
 use Rattle.tokei_invocation.specs.declared.ending.Ending.{Ending}
-use Rattle.tokei_invocation.specs.declared.ending.Ending.TheVariants.{Refused, NoTable, Table, Input, Unreadable, UnreadableBy, TooLong, Missing, Memory, NoRoom, Overflow, Write, Unwritten}
+use Rattle.tokei_invocation.specs.declared.ending.Ending.TheVariants.{Refused, NoTable, Table, Input, TooLong, Unreadable, UnreadableBy, Missing, Memory, NoRoom, Overflow, Write, Unwritten}
 
 -- a text that names a cause: it begins with `Error:` and ends with a newline
 pub record IsMessage (text : List ℕ) : Type 0 where
@@ -22,9 +22,10 @@ words_of (Refused text) = string_bytes text
 words_of (NoTable text) = codes "the table of languages can't be read: " ++ string_bytes text
 words_of (Table text) = codes "the table of languages is refused: " ++ string_bytes text
 words_of (Input name) = codes "failed to parse input file: " ++ string_bytes name
+words_of (TooLong name) =
+    codes "earlier results have more than 4,294,967,296 bytes: " ++ string_bytes name
 words_of Unreadable = codes "earlier results can't be read"
 words_of (UnreadableBy text) = codes "earlier results can't be read: " ++ string_bytes text
-words_of TooLong = codes "the input has more than 4,294,967,296 bytes"
 words_of (Missing root) = codes "'" ++ (string_bytes root ++ codes "' not found.")
 words_of Memory = codes "out of memory"
 words_of (NoRoom place) = codes "out of memory: " ++ string_bytes place

@@ -18,12 +18,12 @@ pub enum Ending {
     Table(String),
     /// The earlier results of this name are refused.
     Input(String),
+    /// The earlier results of this name have more bytes than may be read.
+    TooLong(String),
     /// Standard input had a fault.
     Unreadable,
     /// Standard input had a fault, in the system's words.
     UnreadableBy(String),
-    /// Standard input has more bytes than may be read.
-    TooLong,
     /// Nothing stands at this root.
     Missing(String),
     /// An allocation failed.
@@ -63,9 +63,13 @@ impl Ending {
             Ending::NoTable(text) => ("the table of languages can't be read: ", text.as_str(), ""),
             Ending::Table(text) => ("the table of languages is refused: ", text.as_str(), ""),
             Ending::Input(name) => ("failed to parse input file: ", name.as_str(), ""),
+            Ending::TooLong(name) => (
+                "earlier results have more than 4,294,967,296 bytes: ",
+                name.as_str(),
+                "",
+            ),
             Ending::Unreadable => ("earlier results can't be read", "", ""),
             Ending::UnreadableBy(text) => ("earlier results can't be read: ", text.as_str(), ""),
-            Ending::TooLong => ("the input has more than 4,294,967,296 bytes", "", ""),
             Ending::Missing(root) => ("'", root.as_str(), "' not found."),
             Ending::Memory => ("out of memory", "", ""),
             Ending::NoRoom(place) => ("out of memory: ", place.as_str(), ""),

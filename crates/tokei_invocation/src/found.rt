@@ -147,15 +147,16 @@ pub fn configuration<F: Folders>(
     Ok(read)
 }
 
-/// The languages of earlier results that are read from a source.
+/// The languages of earlier results of that name that are read from a source.
 fn languages_of<S: Source>(
     alloc: Global,
     table: &LanguageTable,
-    name: &str,
+    name: String,
     source: &mut S,
 ) -> Result<Languages, Ending>
     ensures read { IfOk result (AreRead table.now (S.remaining source.old)) }
-    ensures cause { IfErr result (IsEndingOfInput table.now name.now (S.remaining source.old)
+    ensures cause { IfErr result (IsEndingOfInput
+        table.now (string_bytes name) (S.remaining source.old)
         (HasFailed (S.remaining source.old) (S.faults source.old) (S.faults source.new))) }
     ensures failed { IfErr result (λ e. status_of e ≡ 1) }
 {
@@ -163,31 +164,32 @@ fn languages_of<S: Source>(
     match add_input(alloc, table, source, &mut languages) {
         Ok(()) => Ok(languages),
         Err(InputError::Memory) => Err(Ending::Memory),
-        Err(InputError::Overflow) => Err(Ending::Overflow),
         Err(InputError::Unreadable) => Err(unreadable(alloc, source)),
-        Err(InputError::TooLong) => Err(Ending::TooLong),
-        Err(_) => Err(Ending::Input(String::from_str(alloc, name)?)),
+        Err(InputError::TooLong) => Err(Ending::TooLong(name)),
+        Err(InputError::Overflow) => Err(Ending::Overflow),
+        Err(_) => Err(Ending::Input(name)),
     }
 }
 
-/// The languages of earlier results that are bytes.
+/// The languages of earlier results of that name that are bytes.
 fn languages_in(
     alloc: Global,
     table: &LanguageTable,
-    name: &str,
+    name: String,
     bytes: &[u8],
 ) -> Result<Languages, Ending>
     ensures read { IfOk result (AreRead table.now (Some bytes.now)) }
-    ensures cause { IfErr result (IsEndingOfInput table.now name.now (Some bytes.now) ⊥) }
+    ensures cause { IfErr result (IsEndingOfInput
+        table.now (string_bytes name) (Some bytes.now) ⊥) }
     ensures failed { IfErr result (λ e. status_of e ≡ 1) }
 {
     let mut languages = Languages::new(alloc);
     match add_bytes(alloc, table, bytes, &mut languages) {
         Ok(()) => Ok(languages),
         Err(InputError::Memory) => Err(Ending::Memory),
+        Err(InputError::TooLong) => Err(Ending::TooLong(name)),
         Err(InputError::Overflow) => Err(Ending::Overflow),
-        Err(InputError::TooLong) => Err(Ending::TooLong),
-        Err(_) => Err(Ending::Input(String::from_str(alloc, name)?)),
+        Err(_) => Err(Ending::Input(name)),
     }
 }
 
@@ -215,7 +217,7 @@ fn earlier_in<F: Folders>(
     ensures failed { IfErr result (λ e. status_of e ≡ 1) }
 {
     let name = with_cause(alloc, text, folders)?;
-    languages_in(alloc, table, name.as_str(), text.as_bytes())
+    languages_in(alloc, table, name, text.as_bytes())
 }
 
 /// The earlier results of that name: the file's; where it can't be read those on standard input, if
@@ -235,18 +237,19 @@ fn earlier_of<F: Folders, S: Source>(
         (HasFailed (S.remaining input.old) (S.faults input.old) (S.faults input.new))))) }
     ensures failed { IfErr result (λ e. status_of e ≡ 1) }
 {
+    let held = String::from_str(alloc, name)?;
     match folders.read_named(name) {
-        Ok(bytes) => languages_in(alloc, table, name, &bytes),
+        Ok(bytes) => languages_in(alloc, table, held, &bytes),
         Err(Fault::Memory) => Err(no_memory(alloc, folders)),
-        Err(Fault::Refused) if name == "stdin" => languages_of(alloc, table, name, input),
+        Err(Fault::Refused) if name == "stdin" => languages_of(alloc, table, held, input),
         Err(Fault::Refused) => earlier_in(alloc, table, name, folders),
     }
 }
 
 /// The earlier results that the command line names, if it names any. Over a known tree, and where
-/// the bytes are known that the name means, `Input` has the name and says that they are refused,
-/// `Overflow` that a sum of theirs passes the greatest `usize`, and `TooLong` that they are too
-/// many. `Unreadable` and `UnreadableBy` come only where the name means standard input, and that
+/// the bytes are known that the name means, `Input` and `TooLong` have the name, and say that they
+/// are refused or too many, and `Overflow` says that a sum of theirs passes the greatest `usize`.
+/// `Unreadable` and `UnreadableBy` come only where the name means standard input, and that
 /// had a fault or didn't end within 4,294,967,296 reads; else memory ran out.
 pub fn earlier<F: Folders, S: Source>(
     alloc: Global,
