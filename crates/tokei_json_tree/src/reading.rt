@@ -138,10 +138,10 @@ pub fn read<'t>(alloc: Global, room: &'t mut Room, text: &'t str) -> Result<Read
     })
 }
 
-/// Reads a text that is an object, but for its members of that name: of these the tree holds `null`
-/// in place of what stands there, so it takes no room for it. `Unusual` is what isn't JSON, and what
-/// `read` reads by the value of `serde_json`; it says nothing more of the text. `Memory` comes only
-/// where an allocation failed.
+/// Reads a text that is an object, but for its members of that name: of these the tree holds
+/// `null` in place of what stands there, so it takes no room for it. `Unusual` is what isn't JSON,
+/// and what `read` reads by the value of `serde_json`; it says nothing more of the text. `Memory`
+/// comes only where an allocation failed.
 pub fn read_without<'t>(room: &'t mut Room, text: &'t str, name: &str) -> Result<Tree<'t>, Missed>
     ensures { IfOk result (λ t. IsReadingWithout name.now text.now (value_view t)) }
 {

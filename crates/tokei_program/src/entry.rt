@@ -238,11 +238,11 @@ fn answer_words<F: Folders, S: Source, W: Sink>(
 /// notes of what was passed over and of configuration files that count as empty, as many as the
 /// command line shows. A refused command line is seen before anything is read or written. Any other
 /// status than 1 says that neither writer had a fault. Where the status is 1 and `err` had no
-/// fault, one message stands in it, and over a known tree it is true: it names the table, the
-/// earlier results, the first root, the sum or the writer that the program failed by, or says that
-/// memory ran out. Where `out` had no fault, it has over a known tree what it held, all of what was
-/// asked for, or the heading of a stream and the rows of the first files, and nothing else. Once a
-/// run has begun, the memory of its table isn't given back, since the process mostly ends next.
+/// fault, one message stands in it: over a known tree a true one on the table, the earlier results,
+/// the first root, a sum or the writer, or that memory ran out, which may be said of any failure.
+/// Where `out` had no fault, it has over a known tree what it held, all of what was asked for, or
+/// the heading of a stream and the rows of the first files, and nothing else. Once a run has begun,
+/// the memory of its table isn't given back, since the process mostly ends next.
 pub fn program<F: Folders, S: Source, W: Sink, E: Sink>(
     alloc: Global,
     words: &[&str],
